@@ -1,0 +1,5 @@
+pub mod Tests
+pub mod Cases
+pub mod Refusals
+pub mod Verdicts
+pub mod Books
