@@ -1,0 +1,5 @@
+pub mod Clearing
+pub mod Rounding
+pub mod Inequalities
+pub mod Shapes
+pub mod Refusing
