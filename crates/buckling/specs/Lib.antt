@@ -1,0 +1,4 @@
+pub mod Greatest
+pub mod Terms
+pub mod Article
+pub mod Cleared
