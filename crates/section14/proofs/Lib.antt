@@ -1,0 +1,5 @@
+pub mod Comparing
+pub mod Rows
+pub mod Held
+pub mod Properly
+pub mod Sizes

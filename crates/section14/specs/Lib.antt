@@ -1,0 +1,5 @@
+pub mod Coefficients
+pub mod Axes
+pub mod Articles
+pub mod Cleared
+pub mod Book
