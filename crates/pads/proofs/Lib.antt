@@ -1,0 +1,3 @@
+pub mod Comparing
+pub mod Held
+pub mod Properly
