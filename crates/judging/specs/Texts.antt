@@ -1,0 +1,64 @@
+-- The text of an answer.
+use Prim.Native.Nat.{ℕ}
+use lib.Chars.{codes}
+use lib.ListN.{getD}
+use mathlib.Core.Bool.{Bool, true, false}
+use mathlib.Core.List.{List, [], _∷_, _++_}
+use Rattle.judge_lines.specs.declared.fault.LineFault.{LineFault}
+use Rattle.judge_lines.specs.declared.fault.WordFault.{WordFault}
+use Rattle.judge_lines.specs.declared.fault.WordFault.the-variants.{Missing, NoKind, NotANumber, TooLarge, OneTooMany}
+use Rattle.rulebook.specs.Refusals.{numberOf}
+use Rattle.rulebook.specs.Verdicts.{verdictNumber}
+use Rattle.rulebook.specs.declared.refusal.Refusal.{Refusal}
+use Rattle.rulebook.specs.declared.refusal.Refusal.the-variants.{Item, Loads, Rest}
+use Rattle.rulebook.specs.declared.verdict.Verdict.{Verdict}
+use Rattle.std.specs.Joined.{joined}
+use Rattle.std.specs.Written.{decimal}
+use Rattle.judging.specs.Answers.{answerTo}
+use Rattle.judging.specs.Lines.{linesOf}
+use Rattle.judging.specs.declared.answer.Answer.{Answer}
+use Rattle.judging.specs.declared.answer.Answer.the-variants.{NoJudgement, Refused, Bearing, Pad}
+
+abbrev pub faultText : WordFault → List ℕ
+faultText Missing = codes "is missing"
+faultText NoKind = codes "is no kind"
+faultText NotANumber = codes "is not a number"
+faultText TooLarge = codes "is too large"
+faultText OneTooMany = codes "is one too many"
+
+abbrev pub reasonText : Refusal → List ℕ
+reasonText (Item field) = codes "field " ++ (decimal field ++ codes " of the item is outside its limits")
+reasonText Loads = codes "the loads are outside their limit"
+reasonText Rest = codes "movement, rotation or mark is outside its range"
+
+abbrev pub heldText : Bool → List ℕ
+heldText true = codes "held"
+heldText false = codes "violated"
+
+-- the article at the place k of the list, counted from 0
+abbrev pub article : List Bool → ℕ → List ℕ
+article articles k = heldText (getD articles k false)
+
+-- the verdict, and the articles that both books have
+abbrev pub verdictText : Verdict → List Bool → List ℕ
+verdictText verdict articles =
+    codes "verdict " ++ (decimal (verdictNumber verdict)
+    ++ (codes ": compression " ++ (article articles 0
+    ++ (codes ", shear " ++ (article articles 1
+    ++ (codes ", uplift " ++ article articles 2))))))
+
+abbrev pub answerText : Answer → List ℕ
+answerText (NoJudgement fault) = codes "no judgement: word " ++ (decimal (fault .word) ++ (codes " " ++ faultText (fault .what)))
+answerText (Refused why) = codes "refused " ++ (decimal (numberOf why) ++ (codes ": " ++ reasonText why))
+answerText (Bearing verdict articles) =
+    verdictText verdict articles
+    ++ (codes ", rotation " ++ (article articles 3
+    ++ (codes ", buckling " ++ (article articles 4
+    ++ (codes ", steel " ++ article articles 5)))))
+answerText (Pad verdict articles) = verdictText verdict articles ++ (codes ", stability " ++ article articles 3)
+
+abbrev pub lineText : List ℕ → List ℕ
+lineText line = answerText (answerTo line) ++ codes "\n"
+
+abbrev pub answersText : List ℕ → List ℕ
+answersText input = joined lineText (linesOf input)
