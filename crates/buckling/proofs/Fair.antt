@@ -31,31 +31,9 @@ pub record FairPlan (plan : Plan) : Type 0 where
 pub fair-plan : (plan : Plan) → SidesWithin plan → FairPlan plan
 unfolding area lesser-side greater-side under-root
 fair-plan (Rectangle l w) s =
-    let product = mul-le-mul (s .0) (s .2) in
-    record {
-      area-top = omega arith;
-      area-bottom = omega arith;
-      lesser-top = omega arith;
-      lesser-bottom = omega arith;
-      greater-top = omega arith;
-      greater-bottom = omega arith;
-      root-bottom = omega arith;
-      root-low = omega arith;
-      root-high = omega arith;
-    }
+    let product = mul-le-mul (s .0) (s .2) in omega arith
 fair-plan (Circle d) s =
-    let square = mul-le-mul (s .0) (s .0) in
-    record {
-      area-top = omega arith;
-      area-bottom = omega arith;
-      lesser-top = omega arith;
-      lesser-bottom = omega arith;
-      greater-top = omega arith;
-      greater-bottom = omega arith;
-      root-bottom = omega arith;
-      root-low = omega arith;
-      root-high = omega arith;
-    }
+    let square = mul-le-mul (s .0) (s .0) in omega arith
 
 -- of a bearing under a case: the terms' bottoms, and the least that the first term can be
 pub record FairTerms (b : Bearing) (c : Case) : Type 0 where

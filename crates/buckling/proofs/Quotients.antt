@@ -109,19 +109,7 @@ module _ (rubber h units : ℕ) (rh : rubber ≤ 342) (hl : 4 ≤ h) (hh : h ≤
       let second-top = mul-le-mul edge-high edge-high in
       let second-low = mul-le-mul lesser-low (mul-le-mul both-low sides-low) in
       let second-high = mul-le-mul lesser-high (mul-le-mul both-high sides-high) in
-      record {
-        first-top = omega (arith, first-top);
-        first-low = omega (arith, first-low);
-        first-high = omega (arith, first-high);
-        first-ratio = omega (arith, first-top, first-low);
-        second-top = omega (arith, second-top);
-        second-low = omega (arith, second-low);
-        second-high = omega (arith, second-high);
-        second-ratio = omega (arith, second-top, second-low);
-        lesser-low = omega arith;
-        ordered = omega arith;
-        greater-high = omega arith;
-      }
+      omega arith
 
   circle-small-by : (d : ℕ) → SidesWithin (Circle d) → SmallParts (circle-quotients d rubber h units)
   circle-small-by d s =
@@ -133,19 +121,7 @@ module _ (rubber h units : ℕ) (rh : rubber ≤ 342) (hl : 4 ≤ h) (hh : h ≤
       let second-top = mul-le-mul hh hh in
       let second-low = mul-le-mul (s .0) sum-low in
       let second-high = mul-le-mul (s .1) sum-high in
-      record {
-        first-top = omega (arith, first-top);
-        first-low = omega (arith, first-low);
-        first-high = omega (arith, first-high);
-        first-ratio = omega (arith, first-top, first-low);
-        second-top = omega (arith, second-top);
-        second-low = omega (arith, second-low);
-        second-high = omega (arith, second-high);
-        second-ratio = omega (arith, second-top, second-low);
-        lesser-low = omega arith;
-        ordered = omega arith;
-        greater-high = omega arith;
-      }
+      omega arith
 
 rubber-high : (b : Bearing) → BearingWithin b → b .layers * b .thickness + 2 * b .cover ≤ 342
 rubber-high b w =

@@ -3,7 +3,7 @@ use Prim.Native.Nat.{ℕ, _≤_, _<_}
 use lib.ListN.{getD}
 use mathlib.Core.Bool.{Bool, true, false}
 use mathlib.Core.List.{List, [], _∷_}
-use mathlib.Core.Path.{_≡_, refl}
+use mathlib.Core.Path.{_≡_}
 use native.Mathlib.Omega.{arith}
 use Rattle.bearings.specs.declared.bearing.Plan.{Plan}
 use Rattle.bearings.specs.declared.bearing.Plan.the-variants.{Rectangle, Circle}
@@ -19,10 +19,10 @@ table = line 4 15 3 ∷ line 4 18 3 ∷ line 3 20 3 ∷ line 3 24 3 ∷ []
 
 pub table-clears : (plan : Plan) (deforms : Bool) → Clears (coefficients plan deforms) (getD table (row-place plan deforms) (line 0 0 0))
 unfolding coefficients
-table-clears (Rectangle l w) true = record { u-is = refl; k-is = refl; kv-is = refl; u-high = omega arith; k-high = omega arith; kv-high = omega arith }
-table-clears (Rectangle l w) false = record { u-is = refl; k-is = refl; kv-is = refl; u-high = omega arith; k-high = omega arith; kv-high = omega arith }
-table-clears (Circle d) true = record { u-is = refl; k-is = refl; kv-is = refl; u-high = omega arith; k-high = omega arith; kv-high = omega arith }
-table-clears (Circle d) false = record { u-is = refl; k-is = refl; kv-is = refl; u-high = omega arith; k-high = omega arith; kv-high = omega arith }
+table-clears (Rectangle l w) true = omega arith
+table-clears (Rectangle l w) false = omega arith
+table-clears (Circle d) true = omega arith
+table-clears (Circle d) false = omega arith
 
 pub record ProperRow (x : Coefficients) : Type 0 where
   pub u-pos : 0 < x .u .bottom
@@ -31,7 +31,7 @@ pub record ProperRow (x : Coefficients) : Type 0 where
 
 pub row-proper : (plan : Plan) (deforms : Bool) → ProperRow (coefficients plan deforms)
 unfolding coefficients
-row-proper (Rectangle l w) true = record { u-pos = omega arith; k-pos = omega arith; v-pos = omega arith }
-row-proper (Rectangle l w) false = record { u-pos = omega arith; k-pos = omega arith; v-pos = omega arith }
-row-proper (Circle d) true = record { u-pos = omega arith; k-pos = omega arith; v-pos = omega arith }
-row-proper (Circle d) false = record { u-pos = omega arith; k-pos = omega arith; v-pos = omega arith }
+row-proper (Rectangle l w) true = omega arith
+row-proper (Rectangle l w) false = omega arith
+row-proper (Circle d) true = omega arith
+row-proper (Circle d) false = omega arith
