@@ -1,6 +1,6 @@
 """Judges bearings and pads, one judgement a line, from standard input.
 
-The layout is that of docs (one output line for each input line).  Input is
+The layout is that of docs/JUDGE.md (one output line for each input line).  Input is
 taken as bytes, since a user's file may hold any.
 """
 

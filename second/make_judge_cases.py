@@ -16,6 +16,7 @@ from fractions import Fraction
 from pathlib import Path
 
 import judge
+import page_examples
 import published
 from articles import (CASE_RANGES, LOAD_LIMIT, Case, CircularBearing, PlainPad,
                       RectangularBearing, area, articles, item_ranges,
@@ -788,6 +789,7 @@ def sections():
     made = {
         "worked cases": [line.encode() for line, _ in WORKED_CASES],
         "published examples": [line.encode() for line in published.lines()],
+        "examples of the page, samples": [line.encode() for line in page_examples.lines()],
         "edges of articles": edges,
         "corners of articles": corner_lines(draw),
         "limits": limit_lines(draw),

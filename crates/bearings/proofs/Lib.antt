@@ -3,3 +3,4 @@ pub mod Rounding
 pub mod Inequalities
 pub mod Shapes
 pub mod Refusing
+pub mod Measures

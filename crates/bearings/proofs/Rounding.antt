@@ -26,6 +26,17 @@ up-high a b h =
 pub down-high : (a b : ℕ) → 0 < b → a < (a / b + 1) * b
 down-high a b h = omega arith
 
+-- rounded up, the least that reaches; rounded down, the greatest that fits
+pub up-least : (a b k : ℕ) → 0 < b → a ≤ k * b → up a b ≤ k
+up-least a b k h so =
+    let below : up a b < k + 1 = lt-of-mul-lt-mul-right b (let m : up a b * b < (k + 1) * b = omega (arith, up-high a b h) in m) in
+    omega (arith, below)
+
+pub down-greatest : (a b k : ℕ) → 0 < b → k * b ≤ a → k ≤ a / b
+down-greatest a b k h so =
+    let below : k < a / b + 1 = lt-of-mul-lt-mul-right b (let m : k * b < (a / b + 1) * b = omega (arith, down-high a b h) in m) in
+    omega (arith, below)
+
 -- the one number between these
 only : (b x y : ℕ) (a : ℕ) → a ≤ x * b → x * b < a + b → a ≤ y * b → y * b < a + b → x ≡ y
 only b x y a xl xh yl yh =

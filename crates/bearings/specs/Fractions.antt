@@ -65,7 +65,7 @@ EveryProper (x ∷ xs) = AllProper x × EveryProper xs
 abbrev pub _same-as_ : Fraction → Fraction → Type 0
 x same-as y = x .top * y .bottom ≡ y .top * x .bottom
 
--- to a whole number
+-- to a whole number: the quotient, and, rounded up, one more where there is a remainder
 abbrev pub rounded-down : Fraction → ℕ
 rounded-down x = x .top / x .bottom
 

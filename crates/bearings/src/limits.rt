@@ -1,6 +1,6 @@
 ghost use Prim.Native.Nat.{_≤_};
-ghost use Rattle.bearings.specs.Limits.{side, sides, lamination, bearing-outside, pad-outside};
-ghost use Rattle.bearings.specs.Sizes.{rubber-sixteenths, bearing-height, pad-height, plan-number};
+ghost use Rattle.bearings.specs.Limits.{side, lamination, bearing-outside, pad-outside};
+ghost use Rattle.bearings.specs.Sizes.{rubber-sixteenths, bearing-height, pad-height, plan-number, PlanNumber, RubberHeight, Height, PadHeight};
 ghost use Rattle.rulebook.specs.Tests.{between, firstFailing};
 ghost use Rattle.std.specs.Options.{Cases as BySome};
 ghost use mathlib.Core.Path.{_≡_};
@@ -8,7 +8,7 @@ use super::Bearing;
 use super::Pad;
 use super::Plan;
 
-fn within(low: u8, x: u8, high: u8) -> bool
+fn in_range(low: u8, x: u8, high: u8) -> bool
     ensures { λ r. ⌜ r ≡ between low x high ⌝ }
 {
     low <= x && x <= high
@@ -17,13 +17,14 @@ fn within(low: u8, x: u8, high: u8) -> bool
 fn side_within(x: u8) -> bool
     ensures { λ r. ⌜ r ≡ side x ⌝ }
 {
-    within(8, x, 80)
+    in_range(8, x, 80)
 }
 
 impl Plan {
     // 1,808 times the area in square inches.
     pub fn number(&self) -> u32
-        ensures { λ r. ⌜ r ≡ plan-number (now (self .entry)) ⌝ }
+        ensures is { λ r. ⌜ r ≡ plan-number (now (self .entry)) ⌝ }
+        ensures area { λ r. ⌜ PlanNumber (now (self .entry)) r ⌝ }
     {
         match *self {
             Plan::Rectangle { length, width } => 452 * (length as u32 * width as u32),
@@ -38,17 +39,19 @@ impl Bearing {
         ensures is { λ r. ⌜ r ≡ firstFailing (lamination (now (self .entry))) ⌝ }
         ensures few { λ r. ⌜ BySome r (Unit {0}) (λ field. field ≤ 6) ⌝ }
     {
-        if !within(1, self.layers, 20) {
+        if !in_range(1, self.layers, 20) {
             Some(1)
-        } else if !within(4, self.thickness, 16) {
+        } else if !in_range(4, self.thickness, 16) {
             Some(2)
-        } else if !within(1, self.cover, 11) || 10 * self.cover as u16 > 7 * self.thickness as u16 {
+        } else if !in_range(1, self.cover, 11)
+            || 10 * self.cover as u16 > 7 * self.thickness as u16
+        {
             Some(3)
-        } else if !within(1, self.laminate, 32) {
+        } else if !in_range(1, self.laminate, 32) {
             Some(4)
-        } else if !within(80, self.modulus, 180) {
+        } else if !in_range(80, self.modulus, 180) {
             Some(5)
-        } else if !within(30, self.strength, 100) {
+        } else if !in_range(30, self.strength, 100) {
             Some(6)
         } else {
             None
@@ -84,14 +87,16 @@ impl Bearing {
 
     // The height of all its rubber, in sixteenths of an inch.
     pub fn rubber_height(&self) -> u32
-        ensures { λ r. ⌜ r ≡ rubber-sixteenths (now (self .entry)) ⌝ }
+        ensures is { λ r. ⌜ r ≡ rubber-sixteenths (now (self .entry)) ⌝ }
+        ensures inches { λ r. ⌜ RubberHeight (now (self .entry)) r ⌝ }
     {
         self.layers as u32 * self.thickness as u32 + 2 * self.cover as u32
     }
 
     // In sixty-fourths of an inch.
     pub fn height(&self) -> u32
-        ensures { λ r. ⌜ r ≡ bearing-height (now (self .entry)) ⌝ }
+        ensures is { λ r. ⌜ r ≡ bearing-height (now (self .entry)) ⌝ }
+        ensures inches { λ r. ⌜ Height (now (self .entry)) r ⌝ }
     {
         4 * self.rubber_height() + (self.layers as u32 + 1) * self.laminate as u32
     }
@@ -106,9 +111,9 @@ impl Pad {
             Some(1)
         } else if !side_within(self.width) {
             Some(2)
-        } else if !within(4, self.thickness, 48) {
+        } else if !in_range(4, self.thickness, 48) {
             Some(3)
-        } else if !within(80, self.modulus, 180) {
+        } else if !in_range(80, self.modulus, 180) {
             Some(4)
         } else {
             None
@@ -117,7 +122,8 @@ impl Pad {
 
     // In sixty-fourths of an inch.
     pub fn height(&self) -> u32
-        ensures { λ r. ⌜ r ≡ pad-height (now (self .entry)) ⌝ }
+        ensures is { λ r. ⌜ r ≡ pad-height (now (self .entry)) ⌝ }
+        ensures inches { λ r. ⌜ PadHeight (now (self .entry)) r ⌝ }
     {
         4 * self.thickness as u32
     }

@@ -14,7 +14,7 @@ use Rattle.bearings.specs.declared.bearing.Bearing.{Bearing}
 use Rattle.bearings.specs.declared.bearing.Plan.{Plan}
 use Rattle.bearings.specs.declared.bearing.Plan.the-variants.{Rectangle, Circle}
 use Rattle.buckling.specs.Cleared.{deck-units}
-use Rattle.buckling.specs.Terms.{lesser-side, greater-side, deck-factor, under-root, first-term, second-term}
+use Rattle.buckling.specs.Terms.{lesser-side, greater-side, deck-factor, under-root, X₀, Y}
 
 -- of a plan
 pub record FairPlan (plan : Plan) : Type 0 where
@@ -37,9 +37,9 @@ fair-plan (Circle d) s =
 
 -- of a bearing under a case: the terms' bottoms, and the least that the first term can be
 pub record FairTerms (b : Bearing) (c : Case) : Type 0 where
-  pub first-bottom : 0 < (first-term b c) .bottom
-  pub second-bottom : 0 < (second-term b) .bottom
-  pub large : 2002 * ((first-term b c) .bottom * 1732) ≤ 19000000000 * (first-term b c) .top
+  pub first-bottom : 0 < (X₀ b c) .bottom
+  pub second-bottom : 0 < (Y b) .bottom
+  pub large : 2002 * ((X₀ b c) .bottom * 1732) ≤ 19000000000 * (X₀ b c) .top
 
 -- the deck's factor is 64 hundredths for each of its units, of which there are 3 or 6
 deck-cases : (t : Bool) → ((cond t (384 over 100) (192 over 100)) .bottom ≡ 100) × ((cond t (384 over 100) (192 over 100)) .top ≡ 64 * cond t 6 3) × (3 ≤ cond t 6 3) × (cond t 6 3 ≤ 6)
@@ -64,22 +64,22 @@ module _ (n h c s g f : ℕ) (case : Case) (nl : 1 ≤ n) (hl : 4 ≤ h) (cl : 1
   abbrev at : Plan → Bearing
   at p = record { plan = p; layers = n; thickness = h; cover = c; laminate = s; modulus = g; strength = f }
 
-  second-bottom-at : (p : Plan) → SidesWithin p → 0 < (second-term (at p)) .bottom
-  unfolding second-term lesser-side greater-side shape-factor
+  second-bottom-at : (p : Plan) → SidesWithin p → 0 < (Y (at p)) .bottom
+  unfolding Y lesser-side greater-side shape-factor
   second-bottom-at (Rectangle l w) s =
       let product = mul-le-mul (s .0) (s .2) in
       mul-pos (omega arith) (mul-pos (mul-pos (omega arith) (omega arith)) (omega arith))
   second-bottom-at (Circle d) s = mul-pos (omega arith) (mul-pos (mul-pos (omega arith) (omega arith)) (omega arith))
 
-  first-bottom-at : (p : Plan) → SidesWithin p → 0 < (first-term (at p) case) .bottom
-  unfolding first-term lesser-side shape-factor
+  first-bottom-at : (p : Plan) → SidesWithin p → 0 < (X₀ (at p) case) .bottom
+  unfolding X₀ lesser-side shape-factor
   first-bottom-at (Rectangle l w) s =
       let lesser-low : 8 ≤ min l w = omega arith in
       rw (deck-bottom case) (omega (arith, mul-le-mul lesser-low (mul-le-mul (s .0) (s .2))))
   first-bottom-at (Circle d) s = rw (deck-bottom case) (omega (arith, mul-le-mul (s .0) (s .0)))
 
-  large-at : (p : Plan) → SidesWithin p → 2002 * ((first-term (at p) case) .bottom * 1732) ≤ 19000000000 * (first-term (at p) case) .top
-  unfolding first-term lesser-side shape-factor
+  large-at : (p : Plan) → SidesWithin p → 2002 * ((X₀ (at p) case) .bottom * 1732) ≤ 19000000000 * (X₀ (at p) case) .top
+  unfolding X₀ lesser-side shape-factor
   large-at (Rectangle l w) s =
       let lesser-high : min l w ≤ 80 = omega arith in
       let height-low : 6 ≤ n * h + 2 * c = omega (arith, mul-le-mul nl hl) in

@@ -16,7 +16,7 @@ use Rattle.bearings.specs.declared.bearing.Plan.{Plan}
 use Rattle.bearings.specs.declared.bearing.Plan.the-variants.{Rectangle, Circle}
 use Rattle.buckling.proofs.Fair.{deck-bottom, deck-top, deck-high}
 use Rattle.buckling.specs.Cleared.{deck-units, PartsOf, SmallParts}
-use Rattle.buckling.specs.Terms.{lesser-side, greater-side, first-term, second-term}
+use Rattle.buckling.specs.Terms.{lesser-side, greater-side, X₀, Y}
 use Rattle.buckling.specs.declared.parts.Parts.{Parts}
 
 abbrev pub rectangle-quotients : (l w rubber h units : ℕ) → Parts
@@ -44,8 +44,8 @@ at n h c s g f p = record { plan = p; layers = n; thickness = h; cover = c; lami
 
 module _ (n h c s g f : ℕ) (case : Case) where
   rectangle-second : (l w : ℕ) → let q : Parts = rectangle-quotients l w (n * h + 2 * c) h (deck-units case) in
-      q .second .top * (second-term (at n h c s g f (Rectangle l w))) .bottom ≡ (second-term (at n h c s g f (Rectangle l w))) .top * q .second .bottom
-  unfolding second-term lesser-side greater-side shape-factor
+      q .second .top * (Y (at n h c s g f (Rectangle l w))) .bottom ≡ (Y (at n h c s g f (Rectangle l w))) .top * q .second .bottom
+  unfolding Y lesser-side greater-side shape-factor
   rectangle-second l w =
       elim (cases-lt l w) [
         | inl lt ↦ let lo : min l w ≡ l = omega arith in let hi : max l w ≡ w = omega arith in rw (lo, hi) (omega arith)
@@ -53,7 +53,7 @@ module _ (n h c s g f : ℕ) (case : Case) where
       ]
 
   rectangle-are : (l w : ℕ) → PartsOf (at n h c s g f (Rectangle l w)) case (rectangle-quotients l w (n * h + 2 * c) h (deck-units case))
-  unfolding first-term lesser-side greater-side shape-factor
+  unfolding X₀ lesser-side greater-side shape-factor
   rectangle-are l w = record {
     first-is = rw (deck-bottom case, deck-top case) (omega arith);
     second-is = rectangle-second l w;
@@ -61,7 +61,7 @@ module _ (n h c s g f : ℕ) (case : Case) where
   }
 
   circle-are : (d : ℕ) → PartsOf (at n h c s g f (Circle d)) case (circle-quotients d (n * h + 2 * c) h (deck-units case))
-  unfolding first-term second-term lesser-side greater-side shape-factor
+  unfolding X₀ Y lesser-side greater-side shape-factor
   circle-are d = record {
     first-is = rw (deck-bottom case, deck-top case) (omega arith);
     second-is = omega arith;

@@ -93,6 +93,20 @@ module _ (plan : Plan) (fair : FairPlan plan) where
         high = greatest-limit (root-fits plan) 1732;
       }
 
+pub root-passes : (plan : Plan) → FairPlan plan → root-fits plan (root plan) ≡ true
+root-passes plan fair = sym (fits-under plan fair (root plan)) ∙ le-leb _ _ (root-under plan fair .fits)
+
+pub root-most : (plan : Plan) → FairPlan plan → (k : ℕ) → root-fits plan k ≡ true → k ≤ root plan
+root-most plan fair k passes =
+    let r = root plan in
+    let fits : k * k * (under-root plan) .bottom ≤ 1000000 * (under-root plan) .top = leb-true _ _ (fits-under plan fair k ∙ passes) in
+    elim (cases-lt (root plan) k) [
+      | inl more ↦
+          let one : root plan + 1 ≤ k = omega arith in
+          omega (arith, root-under plan fair .next, mul-le-mul-right ((under-root plan) .bottom) (mul-le-mul one one))
+      | inr so ↦ so
+    ]
+
 -- the root of any two sides lies from 1,000 to 1,732
 pub root-low : (lesser greater r : ℕ) → 1000000 * (greater + 2 * lesser) < (r + 1) * (r + 1) * greater → 1000 ≤ r
 root-low lesser greater r next =

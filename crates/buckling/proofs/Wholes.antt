@@ -2,23 +2,27 @@
 use Prim.Native.Nat.{ℕ, _+_, _*_, _/_, _%_, min, _≤_, _<_}
 use lib.Dec.{leb}
 use mathlib.Core.Path.{_≡_, ap, sym, _∙_}
-use native.Mathlib.Nat.{mul-le-mul, mul-le-mul-left, mul-le-mul-right, mul-pos, div-le-of-le-mul}
+use native.Mathlib.Nat.{mul-le-mul, mul-le-mul-left, mul-le-mul-right, mul-pos, div-le-of-le-mul, div-mul-le-self}
 use native.Mathlib.Omega.{arith}
+use Rattle.std.proofs.shelf.Tests.{le-leb, leb-true}
+use Rattle.std.specs.declared.option.Option.the-variants.{None}
 use Rattle.rulebook.specs.Cases.{load}
 use Rattle.rulebook.specs.declared.case.Case.{Case}
 use Rattle.bearings.proofs.Clearing.{cleared}
-use Rattle.bearings.proofs.Inequalities.{BearingWithin}
+use Rattle.bearings.proofs.Inequalities.{BearingWithin, bearing-within}
 use Rattle.bearings.proofs.Refusing.{bearing-so}
-use Rattle.bearings.proofs.Rounding.{up, same-up, same-down}
+use Rattle.bearings.proofs.Rounding.{up, up-low, up-least, down-greatest, same-up, same-down}
 use Rattle.bearings.specs.Fractions.{Fraction, whole, _times_, _per_, _plus_, _at-most_, holds}
+use Rattle.bearings.specs.Limits.{bearing-outside}
 use Rattle.bearings.specs.Quantities.{area}
 use Rattle.bearings.specs.declared.admitted.AdmittedBearing.{AdmittedBearing}
 use Rattle.bearings.specs.declared.bearing.Bearing.{Bearing}
 use Rattle.buckling.proofs.Fair.{FairPlan, fair-plan, fair-terms}
-use Rattle.buckling.proofs.Roots.{root-is}
+use Rattle.buckling.proofs.Roots.{Root, root-under, root-is, root-passes, root-most}
 use Rattle.buckling.specs.Article.{buckling}
 use Rattle.buckling.specs.Cleared.{PartsOf, SmallParts}
-use Rattle.buckling.specs.Terms.{first-term, second-term, root, first-whole, second-whole}
+use Rattle.buckling.specs.Greatest.{IsGreatest, IsLeast}
+use Rattle.buckling.specs.Terms.{WholeNumbers, root-fits, X₀, Y, root, X-millionths, X′, Y-millionths, Y′}
 use Rattle.buckling.specs.declared.parts.Parts.{Parts}
 
 up-most : (a b n : ℕ) → a / b ≤ n → up a b ≤ n + 1
@@ -46,8 +50,8 @@ module _ (b : Bearing) (c : Case) (w : BearingWithin b) (q : Parts) (is : PartsO
       root-is (b .plan) (fair-plan (b .plan) (w .sides-so)) (q .lesser) (q .greater) (omega (arith, small .lesser-low, small .ordered))
       (is .sides-are) r (small .ordered) fits next
 
-  pub first-is : up (1000000000 * q .first .top) (q .first .bottom * r) ≡ first-whole b c
-  unfolding first-whole
+  pub first-is : up (1000000000 * q .first .top) (q .first .bottom * r) ≡ X′ b c
+  unfolding X′ X-millionths
   first-is =
       rw same-root
       (same-up (1000000000 * q .first .top) (q .first .bottom * r) _ _
@@ -55,8 +59,8 @@ module _ (b : Bearing) (c : Case) (w : BearingWithin b) (q : Parts) (is : PartsO
       (omega (arith, mul-pos (fair-terms b c w .first-bottom) (let pos : 0 < r = omega (arith, low) in pos)))
       (omega (arith, ap (λ z. 1000000000 * r * z) (is .first-is))))
 
-  pub second-is : 1000000 * q .second .top / q .second .bottom ≡ second-whole b
-  unfolding second-whole
+  pub second-is : 1000000 * q .second .top / q .second .bottom ≡ Y′ b
+  unfolding Y′ Y-millionths
   second-is =
       same-down (1000000 * q .second .top) (q .second .bottom) _ _ (small .second-low) (omega (arith, fair-terms b c w .second-bottom))
       (omega (arith, ap (λ z. 1000000 * z) (is .second-is)))
@@ -71,9 +75,39 @@ compares-by P G at ab first second A at-pos A-pos same =
     (omega (arith, ap (λ z. P * second * A .top * z) same))
 
 pub compares : (a : AdmittedBearing)
-    → leb (load (a .case) * a .form .area .bottom * first-whole (a .bearing) (a .case)) (1000000 * a .bearing .modulus * a .form .area .top + load (a .case) * a .form .area .bottom * second-whole (a .bearing))
+    → leb (load (a .case) * a .form .area .bottom * X′ (a .bearing) (a .case)) (1000000 * a .bearing .modulus * a .form .area .top + load (a .case) * a .form .area .bottom * Y′ (a .bearing))
     ≡ holds (buckling (a .bearing) (a .case))
 unfolding buckling
 compares a =
-    compares-by (load (a .case)) (a .bearing .modulus) (a .form .area .top) (a .form .area .bottom) (first-whole (a .bearing) (a .case)) (second-whole (a .bearing))
+    compares-by (load (a .case)) (a .bearing .modulus) (a .form .area .top) (a .form .area .bottom) (X′ (a .bearing) (a .case)) (Y′ (a .bearing))
     (area (a .bearing .plan)) (a .«area_small» .0 .0) (fair-plan (a .bearing .plan) (bearing-so a .sides-so) .area-top) (a .«area_is»)
+
+-- what the whole numbers are
+module _ (b : Bearing) (c : Case) (w : BearingWithin b) where
+  root-so : Root (b .plan) (root (b .plan))
+  root-so = root-under (b .plan) (fair-plan (b .plan) (w .sides-so))
+
+  divisor : 0 < 1 * ((X₀ b c) .bottom * root (b .plan))
+  divisor = omega (arith, mul-pos (fair-terms b c w .first-bottom) (let pos : 0 < root (b .plan) = omega (arith, root-so .low) in pos))
+
+  root-greatest : IsGreatest (root-fits (b .plan)) (root (b .plan))
+  root-greatest = (root-passes (b .plan) (fair-plan (b .plan) (w .sides-so)), root-most (b .plan) (fair-plan (b .plan) (w .sides-so)))
+
+  first-least : IsLeast (λ n. holds (X-millionths b c at-most whole n)) (X′ b c)
+  unfolding X′ X-millionths
+  first-least =
+      let a = 1000000 * ((X₀ b c) .top * 1000) in
+      let d = 1 * ((X₀ b c) .bottom * root (b .plan)) in
+      (le-leb _ _ (omega (arith, up-low a d divisor)), λ k so. up-least a d k divisor (omega (arith, leb-true _ _ so)))
+
+  second-greatest : IsGreatest (λ n. holds (whole n at-most Y-millionths b)) (Y′ b)
+  unfolding Y′ Y-millionths
+  second-greatest =
+      let a = 1000000 * (Y b) .top in
+      let d = 1 * (Y b) .bottom in
+      (le-leb _ _ (omega (arith, div-mul-le-self a d)), λ k so. down-greatest a d k (omega (arith, fair-terms b c w .second-bottom)) (omega (arith, leb-true _ _ so)))
+
+pub whole-numbers : (b : Bearing) (c : Case) → bearing-outside b ≡ None → WholeNumbers b c
+whole-numbers b c within =
+    let w = bearing-within b within in
+    record { root-is = root-greatest b c w; first-is = first-least b c w; second-is = second-greatest b c w }

@@ -6,7 +6,7 @@ use Rattle.rulebook.specs.declared.case.Case.{Case}
 use Rattle.bearings.specs.Forms.{fraction}
 use Rattle.bearings.specs.Fractions.{_over_, _per_, _same-as_}
 use Rattle.bearings.specs.declared.bearing.Bearing.{Bearing}
-use Rattle.buckling.specs.Terms.{lesser-side, greater-side, first-term, second-term, first-whole, second-whole}
+use Rattle.buckling.specs.Terms.{lesser-side, greater-side, X₀, Y, X′, Y′}
 use Rattle.buckling.specs.declared.parts.Parts.{Parts}
 use Rattle.buckling.specs.declared.parts.WholeTerms.{WholeTerms}
 
@@ -15,8 +15,8 @@ abbrev pub deck-units : Case → ℕ
 deck-units c = cond (eqb (c .deck) 1) 6 3
 
 pub record PartsOf (b : Bearing) (c : Case) (q : Parts) : Type 0 where
-  pub first-is : fraction (q .first) same-as first-term b c
-  pub second-is : fraction (q .second) same-as second-term b
+  pub first-is : fraction (q .first) same-as X₀ b c
+  pub second-is : fraction (q .second) same-as Y b
   pub sides-are : (q .lesser over q .greater) same-as (lesser-side (b .plan) per greater-side (b .plan))
 
 -- what keeps every product within 64 bits
@@ -34,4 +34,4 @@ pub record SmallParts (q : Parts) : Type 0 where
   pub greater-high : q .greater ≤ 80
 
 abbrev pub wholeTerms : Bearing → Case → WholeTerms
-wholeTerms b c = record { first = first-whole b c; second = second-whole b }
+wholeTerms b c = record { first = X′ b c; second = Y′ b }

@@ -9,7 +9,7 @@ use Rattle.bearings.specs.Units.{halves}
 use Rattle.bearings.specs.declared.bearing.Bearing.{Bearing}
 use Rattle.bearings.specs.declared.bearing.Plan.{Plan}
 use Rattle.bearings.specs.declared.bearing.Plan.the-variants.{Rectangle, Circle}
-use Rattle.buckling.specs.Greatest.{greatest}
+use Rattle.buckling.specs.Greatest.{IsGreatest, IsLeast, greatest}
 
 -- l, the lesser side; of a circle 0.8D
 unfoldable pub lesser-side : Plan → Fraction
@@ -29,13 +29,13 @@ deck-factor c = cond (eqb (c .deck) 1) (384 over 100) (192 over 100)
 unfoldable pub under-root : Plan → Fraction
 under-root plan = whole 1 plus whole 2 times lesser-side plan per greater-side plan
 
--- X with its root left out: a(H/l)/S, so that X = a(H/l)/(S√(1+2l/m))
-unfoldable pub first-term : Bearing → Case → Fraction
-first-term b c = deck-factor c times (rubber-height b per lesser-side (b .plan)) per shape-factor (b .plan) (b .thickness)
+-- X₀ = a(H/l)/S, which is X = a(H/l)/(S√(1+2l/m)) without its root
+unfoldable pub X₀ : Bearing → Case → Fraction
+X₀ b c = deck-factor c times (rubber-height b per lesser-side (b .plan)) per shape-factor (b .plan) (b .thickness)
 
 -- Y = 2.67/(S(S+2)(1+l/(4m)))
-unfoldable pub second-term : Bearing → Fraction
-second-term b =
+unfoldable pub Y : Bearing → Fraction
+Y b =
     267 over 100
     per (shape-factor (b .plan) (b .thickness)
     times (shape-factor (b .plan) (b .thickness) plus whole 2)
@@ -49,10 +49,25 @@ root-fits plan r = holds (whole (r * r) times greater-side plan at-most whole 10
 unfoldable pub root : Plan → ℕ
 root plan = greatest (root-fits plan) 1732
 
--- X′: 1,000,000·X with r/1,000 in the place of the root, rounded up
-unfoldable pub first-whole : Bearing → Case → ℕ
-first-whole b c = rounded-up (whole 1000000 times (first-term b c per (root (b .plan) over 1000)))
+-- 1,000,000·X with r/1,000 in the place of the root
+unfoldable pub X-millionths : Bearing → Case → Fraction
+X-millionths b c = whole 1000000 times (X₀ b c per (root (b .plan) over 1000))
 
--- Y′: 1,000,000·Y, rounded down
-unfoldable pub second-whole : Bearing → ℕ
-second-whole b = rounded-down (whole 1000000 times second-term b)
+-- X′: that, rounded up
+unfoldable pub X′ : Bearing → Case → ℕ
+X′ b c = rounded-up (X-millionths b c)
+
+-- 1,000,000·Y
+unfoldable pub Y-millionths : Bearing → Fraction
+Y-millionths b = whole 1000000 times Y b
+
+-- Y′: that, rounded down
+unfoldable pub Y′ : Bearing → ℕ
+Y′ b = rounded-down (Y-millionths b)
+
+-- What the three whole numbers of the article are: r the greatest that fits, X′ the least at or above a million times X with r/1,000 in the place
+-- of the root, Y′ the greatest at or below a million times Y.
+pub record WholeNumbers (b : Bearing) (c : Case) : Type 0 where
+  pub root-is : IsGreatest (root-fits (b .plan)) (root (b .plan))
+  pub first-is : IsLeast (λ n. holds (X-millionths b c at-most whole n)) (X′ b c)
+  pub second-is : IsGreatest (λ n. holds (whole n at-most Y-millionths b)) (Y′ b)

@@ -2,10 +2,12 @@ ghost use Prim.Native.Nat.{ℕ, _+_, _*_, _≤_, _<_};
 ghost use Rattle.bearings.specs.Fractions.{holds};
 ghost use Rattle.bearings.specs.Limits.{bearing-outside};
 ghost use Rattle.bearings.specs.declared.bearing.Plan.the-variants.{Rectangle, Circle};
-ghost use Rattle.buckling.specs.Article.{buckling};
+ghost use Rattle.buckling.specs.Article.{buckling, ProperTerms};
 ghost use Rattle.buckling.specs.Cleared.{deck-units, PartsOf, SmallParts, wholeTerms};
+ghost use Rattle.buckling.specs.Terms.{WholeNumbers};
 ghost use Rattle.rulebook.specs.Books.{refusal, answered};
 ghost use Rattle.rulebook.specs.Cases.{loads-within, rest-within};
+ghost use Rattle.std.specs.declared.option.Option.the-variants.{None};
 ghost use mathlib.Core.Path.{_≡_};
 use super::parts::Parts;
 use super::parts::WholeTerms;
@@ -16,8 +18,8 @@ use bearings::Ratio;
 use rulebook::Case;
 use rulebook::Refusal;
 
-// The deck's factor, in units of 0.64.
-fn deck_factor(case: &Case) -> u64
+// The deck's factor, 3.84 or 1.92, in units of 0.64.
+fn deck_units(case: &Case) -> u64
     ensures { λ r. ⌜ r ≡ deck-units (now (case .entry)) ⌝ }
 {
     if case.deck == 1 { 6 } else { 3 }
@@ -36,7 +38,7 @@ fn rectangle_parts(admitted: &AdmittedBearing, length: u8, width: u8) -> Parts
     let edge = admitted.bearing.thickness as u64 * (length + width);
     Parts {
         first: Ratio {
-            top: deck_factor(&admitted.case) * admitted.bearing.rubber_height() as u64 * edge,
+            top: deck_units(&admitted.case) * admitted.bearing.rubber_height() as u64 * edge,
             bottom: 50 * (lesser * product),
         },
         second: Ratio {
@@ -57,7 +59,7 @@ fn circle_parts(admitted: &AdmittedBearing, diameter: u8) -> Parts
     let thickness = admitted.bearing.thickness as u64;
     Parts {
         first: Ratio {
-            top: deck_factor(&admitted.case) * admitted.bearing.rubber_height() as u64 * thickness,
+            top: deck_units(&admitted.case) * admitted.bearing.rubber_height() as u64 * thickness,
             bottom: 20 * (diameter * diameter),
         },
         second: Ratio {
@@ -107,7 +109,9 @@ fn terms(admitted: &AdmittedBearing) -> WholeTerms
 
 // X′ and Y′ of a bearing under a case.
 pub fn whole_terms(bearing: &Bearing, case: &Case) -> Result<WholeTerms, Refusal>
-    ensures { λ r. ⌜ r ≡ answered (refusal (bearing-outside (now (bearing .entry))) (loads-within (now (case .entry))) (rest-within (now (case .entry)))) (wholeTerms (now (bearing .entry)) (now (case .entry))) ⌝ }
+    ensures is { λ r. ⌜ r ≡ answered (refusal (bearing-outside (now (bearing .entry))) (loads-within (now (case .entry))) (rest-within (now (case .entry)))) (wholeTerms (now (bearing .entry)) (now (case .entry))) ⌝ }
+    ensures rounded { λ _. ⌜ (bearing-outside (now (bearing .entry)) ≡ None → WholeNumbers (now (bearing .entry)) (now (case .entry))) ⌝ }
+    ensures proper { λ _. ⌜ (bearing-outside (now (bearing .entry)) ≡ None → ProperTerms (now (bearing .entry)) (now (case .entry))) ⌝ }
 {
     let admitted = AdmittedBearing::new(bearing, case)?;
     Ok(terms(&admitted))

@@ -13,7 +13,7 @@ use bearings::Pad;
 use bearings::Plan;
 use rulebook::Case;
 
-// A line has 16 words at most, so that `place` stays far below what these functions allow.
+// A judgement has 16 words at most, so that `place` stays far below what these functions allow.
 
 fn read_rectangle(words: &mut Words) -> Result<Plan, LineFault>
     requires { ⌜ now words .place ≤ 200 ⌝ }

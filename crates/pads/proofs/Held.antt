@@ -13,7 +13,7 @@ use Rattle.bearings.specs.Quantities.{area, shape-factor}
 use Rattle.bearings.specs.declared.admitted.AdmittedPad.{AdmittedPad}
 use Rattle.bearings.specs.declared.pad.Pad.{Pad}
 use Rattle.pads.proofs.Comparing.{load-cleared, uplift-cleared, shear-cleared}
-use Rattle.pads.specs.Articles.{plan-of, stress-within, load-within, compression, shear, uplift-on, uplift, stability-of, stability}
+use Rattle.pads.specs.Articles.{plan-of, stress-within, stress-within-GS, compression, shear, uplift-on, uplift, stability-of, stability}
 
 module _ (a : AdmittedPad) where
   so : Positive (plan-of (a .pad)) (a .pad .thickness)
@@ -24,7 +24,7 @@ module _ (a : AdmittedPad) where
       stress-cleared (area (plan-of (a .pad))) (a .form .area .top) (a .form .area .bottom) (a .«area_small» .0 .0) (so .area-top) (a .«area_is»)
       (load (a .case)) 800
 
-  pub load-held : leb (load (a .case) * a .form .«shape_area» .bottom) (a .pad .modulus * a .form .«shape_area» .top) ≡ holds (load-within (a .pad) (a .case))
+  pub load-held : leb (load (a .case) * a .form .«shape_area» .bottom) (a .pad .modulus * a .form .«shape_area» .top) ≡ holds (stress-within-GS (a .pad) (a .case))
   load-held =
       load-cleared (area (plan-of (a .pad))) (shape-factor (plan-of (a .pad)) (a .pad .thickness)) (a .form .«shape_area» .top) (a .form .«shape_area» .bottom)
       (a .«shape_area_small» .0 .0) (so .area-top) (so .shape-top) (a .«shape_area_is») (load (a .case)) (a .pad .modulus)
@@ -37,9 +37,9 @@ module _ (a : AdmittedPad) where
       (a .«shape_area_small» .0 .0) (so .area-top) (so .shape-top) (a .«shape_area_is») (load (a .case)) (a .pad .modulus) (a .pad .thickness) b θ
 
 -- whole articles, by their comparisons
-pub compression-held : (p : Pad) (c : Case) → (holds (stress-within p c) && holds (load-within p c)) ≡ all-hold (compression p c)
+pub compression-held : (p : Pad) (c : Case) → (holds (stress-within p c) && holds (stress-within-GS p c)) ≡ all-hold (compression p c)
 unfolding compression
-compression-held p c = both-hold (holds (stress-within p c)) (holds (load-within p c))
+compression-held p c = both-hold (holds (stress-within p c)) (holds (stress-within-GS p c))
 
 pub shear-held : (p : Pad) (c : Case) → leb (8 * c .movement) (25 * p .thickness) ≡ all-hold (shear p c)
 unfolding shear

@@ -9,6 +9,7 @@ use Rattle.bearings.proofs.Inequalities.{PadWithin, pad-within}
 use Rattle.bearings.proofs.Shapes.{Positive, positive}
 use Rattle.bearings.specs.Fractions.{Proper, AllProper, EveryProper}
 use Rattle.bearings.specs.Limits.{pad-outside}
+use Rattle.bearings.specs.Quantities.{ProperQuantities}
 use Rattle.bearings.specs.declared.pad.Pad.{Pad}
 use Rattle.pads.specs.Articles.{plan-of, T, GS, compression, shear, uplift-on, uplift, stability}
 use Rattle.pads.specs.Book.{pad-comparisons}
@@ -47,3 +48,9 @@ module _ (p : Pad) (c : Case) (w : PadWithin p) where
 pub every-proper : (p : Pad) (c : Case) → pad-outside p ≡ None → EveryProper (pad-comparisons p c)
 every-proper p c within =
     let w = pad-within p within in (compression-proper p c w, (shear-proper p c w, (uplift-proper p c w, (stability-proper p c w, tt))))
+
+pub quantities-proper : (p : Pad) → pad-outside p ≡ None → ProperQuantities (plan-of p) (p .thickness)
+quantities-proper p within =
+    let w = pad-within p within in
+    let so = positive (plan-of p) (p .thickness) (w .sides-so) (w .thickness-so .0) in
+    (so .area-bottom, so .shape-bottom)

@@ -29,11 +29,11 @@ GS p = whole (p .modulus) times shape-factor (plan-of p) (p .thickness)
 abbrev pub stress-within : Pad → Case → Comparison
 stress-within p c = T p c at-most whole 800
 
-abbrev pub load-within : Pad → Case → Comparison
-load-within p c = T p c at-most GS p
+abbrev pub stress-within-GS : Pad → Case → Comparison
+stress-within-GS p c = T p c at-most GS p
 
 unfoldable pub compression : Pad → Case → List Comparison
-compression p c = stress-within p c ∷ load-within p c ∷ []
+compression p c = stress-within p c ∷ stress-within-GS p c ∷ []
 
 -- 2. Shear: h ≥ 2M
 unfoldable pub shear : Pad → Case → List Comparison

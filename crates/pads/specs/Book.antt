@@ -5,7 +5,7 @@ use mathlib.Core.List.{List, [], _∷_, map}
 use Rattle.rulebook.specs.Books.{Rules}
 use Rattle.rulebook.specs.Cases.{loads-within, rest-within}
 use Rattle.rulebook.specs.declared.case.Case.{Case}
-use Rattle.bearings.specs.Fractions.{Comparison, all-hold, EveryProper}
+use Rattle.bearings.specs.Fractions.{Comparison, all-hold}
 use Rattle.bearings.specs.Limits.{pad-outside}
 use Rattle.bearings.specs.Sizes.{pad-height, plan-number}
 use Rattle.bearings.specs.declared.pad.Pad.{Pad}
@@ -27,5 +27,5 @@ pad-rules = record {
   rest = rest-within;
   articles = pad-articles;
   height = pad-height;
-  plan = λ p. plan-number (plan-of p);
+  plan-number = λ p. plan-number (plan-of p);
 }

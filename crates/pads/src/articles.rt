@@ -1,6 +1,6 @@
 ghost use Prim.Native.Nat.{_≤_};
 ghost use Rattle.bearings.specs.Fractions.{holds, all-hold};
-ghost use Rattle.pads.specs.Articles.{stress-within, load-within, compression, shear, uplift-on, uplift, stability-of, stability};
+ghost use Rattle.pads.specs.Articles.{stress-within, stress-within-GS, compression, shear, uplift-on, uplift, stability-of, stability};
 ghost use mathlib.Core.Path.{_≡_};
 use bearings::AdmittedPad;
 
@@ -14,7 +14,7 @@ fn stress_holds(admitted: &AdmittedPad) -> bool
 
 // T ≤ GS.
 fn load_holds(admitted: &AdmittedPad) -> bool
-    ensures { λ r. ⌜ r ≡ holds (load-within (now (admitted .entry) .pad) (now (admitted .entry) .case)) ⌝ }
+    ensures { λ r. ⌜ r ≡ holds (stress-within-GS (now (admitted .entry) .pad) (now (admitted .entry) .case)) ⌝ }
 {
     let shape_area = admitted.form.shape_area;
     admitted.case.load() * shape_area.bottom <= admitted.pad.modulus as u64 * shape_area.top

@@ -1,9 +1,11 @@
 ghost use Rattle.bearings.specs.Fractions.{EveryProper};
 ghost use Rattle.bearings.specs.Limits.{pad-outside};
+ghost use Rattle.bearings.specs.Quantities.{ProperQuantities};
 ghost use Rattle.rulebook.specs.Books.{refusal, answered};
 ghost use Rattle.rulebook.specs.Cases.{loads-within, rest-within};
 ghost use Rattle.rulebook.specs.Tests.{firstFailing};
 ghost use Rattle.rulebook.specs.Verdicts.{verdictBy};
+ghost use Rattle.pads.specs.Articles.{plan-of};
 ghost use Rattle.pads.specs.Book.{pad-articles, pad-comparisons, pad-rules};
 ghost use Rattle.std.specs.declared.option.Option.the-variants.{None};
 ghost use mathlib.Core.Path.{_≡_};
@@ -56,6 +58,7 @@ fn articles_of(admitted: &AdmittedPad) -> [bool; 4]
 pub fn article_list(pad: &Pad, case: &Case) -> Result<[bool; 4], Refusal>
     ensures is { λ r. ⌜ r ≡ answered (refusal (pad-outside (now (pad .entry))) (loads-within (now (case .entry))) (rest-within (now (case .entry)))) (pad-articles (now (pad .entry)) (now (case .entry))) ⌝ }
     ensures proper { λ _. ⌜ (pad-outside (now (pad .entry)) ≡ None → EveryProper (pad-comparisons (now (pad .entry)) (now (case .entry)))) ⌝ }
+    ensures quantities { λ _. ⌜ (pad-outside (now (pad .entry)) ≡ None → ProperQuantities (plan-of (now (pad .entry))) (now (pad .entry) .thickness)) ⌝ }
 {
     let admitted = AdmittedPad::new(pad, case)?;
     Ok(articles_of(&admitted))

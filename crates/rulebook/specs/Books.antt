@@ -1,7 +1,7 @@
 -- What a rule book means, for items of any kind.
 use Prim.Native.Nat.{ℕ}
-use mathlib.Core.Bool.{Bool, true, false, cond}
-use mathlib.Core.List.{List}
+use mathlib.Core.Bool.{Bool, true, false, cond, _&&_}
+use mathlib.Core.List.{List, [], _∷_}
 use Rattle.std.specs.declared.option.Option.{Option}
 use Rattle.std.specs.declared.option.Option.the-variants.{Some, None}
 use Rattle.std.specs.declared.result.Result.{Result}
@@ -23,9 +23,9 @@ pub record Rules (I : Type 0) : Type 0 where
   pub rest : Case → Bool
   -- whether each article holds, in their order; it speaks of items and cases within the limits
   pub articles : I → Case → List Bool
-  -- of an item within the limits
+  -- of an item within the limits: its height, in the book's unit of height, and its plan number, which grows with its area
   pub height : I → ℕ
-  pub plan : I → ℕ
+  pub plan-number : I → ℕ
 
 abbrev pub within : Option ℕ → Bool
 within None = true
@@ -53,5 +53,13 @@ verdictOf R i c = answered (refusal (R .outside i) (R .loads c) (R .rest c)) (ve
 abbrev pub heightOf : {I : Type 0} → Rules I → I → Result ℕ Refusal
 heightOf R i = answered (itemRefusal (R .outside i)) (R .height i)
 
-abbrev pub planOf : {I : Type 0} → Rules I → I → Result ℕ Refusal
-planOf R i = answered (itemRefusal (R .outside i)) (R .plan i)
+abbrev pub planNumberOf : {I : Type 0} → Rules I → I → Result ℕ Refusal
+planNumberOf R i = answered (itemRefusal (R .outside i)) (R .plan-number i)
+
+abbrev pub every : List Bool → Bool
+every [] = true
+every (test ∷ tests) = test && every tests
+
+-- an item passes under a case: both lie within the limits, and every article holds
+abbrev pub passes : {I : Type 0} → Rules I → I → Case → Bool
+passes R i c = within (R .outside i) && (R .loads c && (R .rest c && every (R .articles i c)))

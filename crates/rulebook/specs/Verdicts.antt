@@ -1,7 +1,11 @@
 -- Verdicts and their numbers.
 use Prim.Native.Nat.{ℕ}
+use mathlib.Core.Bool.{Bool, true, false}
 use Rattle.std.specs.declared.option.Option.{Option}
 use Rattle.std.specs.declared.option.Option.the-variants.{Some, None}
+use Rattle.std.specs.declared.result.Result.{Result}
+use Rattle.std.specs.declared.result.Result.the-variants.{Ok, Err}
+use Rattle.rulebook.specs.declared.refusal.Refusal.{Refusal}
 use Rattle.rulebook.specs.declared.verdict.Verdict.{Verdict}
 use Rattle.rulebook.specs.declared.verdict.Verdict.the-variants.{Passes, Fails}
 
@@ -14,3 +18,9 @@ verdictBy (Some article) = Fails article
 abbrev pub verdictNumber : Verdict → ℕ
 verdictNumber Passes = 0
 verdictNumber (Fails article) = article
+
+-- whether an answer is a verdict that every article holds
+abbrev pub passing : Result Verdict Refusal → Bool
+passing (Ok Passes) = true
+passing (Ok (Fails article)) = false
+passing (Err why) = false

@@ -1,5 +1,6 @@
 ghost use Prim.Native.Nat.{ℕ, _<_, _^_};
-ghost use Rattle.rulebook.specs.Books.{Rules, within, verdictOf, heightOf, planOf};
+ghost use Rattle.rulebook.specs.Books.{Rules, within, passes, verdictOf, heightOf, planNumberOf};
+ghost use Rattle.rulebook.specs.Verdicts.{passing};
 ghost use Rattle.rulebook.specs.declared.case.Case.{Case};
 ghost use Rattle.std.specs.declared.option.Option.the-variants.{None};
 ghost use denote.Ref.{now};
@@ -20,7 +21,7 @@ pub trait RuleBook {
 
     law counted: { (b : Self) (i : Self·Item) (c : Case) → length (rules b .articles i c) ≡ rules b .count };
 
-    law measured: { (b : Self) (i : Self·Item) → rules b .outside i ≡ None → (rules b .height i < 2 ^ 32) × (rules b .plan i < 2 ^ 32) };
+    law measured: { (b : Self) (i : Self·Item) → rules b .outside i ≡ None → (rules b .height i < 2 ^ 32) × (rules b .plan-number i < 2 ^ 32) };
 
     // The number of articles, ARTICLES.
     fn article_count(&self) -> u8
@@ -53,5 +54,22 @@ pub trait RuleBook {
         ensures { λ r. ⌜ r ≡ heightOf (rules (now (self .entry))) (now (item .entry)) ⌝ };
 
     fn plan_number(&self, item: &Self::Item) -> Result<u32, Refusal>
-        ensures { λ r. ⌜ r ≡ planOf (rules (now (self .entry))) (now (item .entry)) ⌝ };
+        ensures { λ r. ⌜ r ≡ planNumberOf (rules (now (self .entry))) (now (item .entry)) ⌝ };
+}
+
+fn is_pass(answer: Result<Verdict, Refusal>) -> bool
+    ensures { λ r. ⌜ r ≡ passing answer ⌝ }
+{
+    match answer {
+        Ok(Verdict::Passes) => true,
+        Ok(Verdict::Fails { article: _ }) => false,
+        Err(_) => false,
+    }
+}
+
+// Whether an item passes under a case, by any book: both lie within the limits, and every article holds.
+pub fn item_passes<B: RuleBook>(book: &B, item: &B::Item, case: &Case) -> bool
+    ensures { λ r. ⌜ r ≡ passes (rules (now (book .entry))) (now (item .entry)) (now (case .entry)) ⌝ }
+{
+    is_pass(book.verdict(item, case))
 }

@@ -6,6 +6,7 @@ mod refusal;
 mod verdict;
 
 pub use book::RuleBook;
+pub use book::item_passes;
 pub use case::Case;
 pub use case::CaseDebug;
 pub use case::CaseEq;

@@ -21,7 +21,7 @@ use Rattle.section14.proofs.Rows.{row-proper}
 use Rattle.section14.specs.Articles.{deforms-in-shear, stress-within, compression, shear, uplift, uplift-on, rotation, rotation-on, steel-total, steel-live, steel, row}
 use Rattle.section14.specs.Axes.{Axis, axis, axes}
 use Rattle.section14.specs.Book.{section14-articles}
-use Rattle.section14.specs.Cleared.{Clears, compression-limits, load-within-hundredths, layers-squared}
+use Rattle.section14.specs.Cleared.{Clears, compression-limits, stress-within-hundredths-GS, layer-squares}
 use Rattle.section14.specs.Coefficients.{coefficients}
 use Rattle.section14.specs.declared.coefficients.Row.{Row}
 
@@ -34,7 +34,7 @@ module _ (a : AdmittedBearing) where
       stress-cleared (area (a .bearing .plan)) (a .form .area .top) (a .form .area .bottom) (a .«area_small» .0 .0) (so .area-top) (a .«area_is»)
       (load (a .case)) most
 
-  pub load-held : (P factor : ℕ) → leb (100 * (P * a .form .«shape_area» .bottom)) (factor * (a .bearing .modulus * a .form .«shape_area» .top)) ≡ holds (load-within-hundredths (a .bearing) P factor)
+  pub load-held : (P factor : ℕ) → leb (100 * (P * a .form .«shape_area» .bottom)) (factor * (a .bearing .modulus * a .form .«shape_area» .top)) ≡ holds (stress-within-hundredths-GS (a .bearing) P factor)
   load-held P factor =
       load-cleared (area (a .bearing .plan)) (shape-factor (a .bearing .plan) (a .bearing .thickness)) (a .form .«shape_area» .top) (a .form .«shape_area» .bottom)
       (a .«shape_area_small» .0 .0) (so .area-top) (so .shape-top) (so .shape-bottom) (a .«shape_area_is») P (a .bearing .modulus) factor
@@ -55,7 +55,7 @@ module _ (a : AdmittedBearing) where
 
   module _ (r : Row) (clears : Clears (row (a .bearing) (a .case)) r) (b θ : ℕ) where
     pub uplift-held :
-        leb (r .u * (a .bearing .modulus * a .form .«shape_area» .top * (θ * (b * b)))) (625 * (layers-squared (a .bearing) * (load (a .case) * a .form .«shape_area» .bottom)))
+        leb (r .u * (a .bearing .modulus * a .form .«shape_area» .top * (θ * (b * b)))) (625 * (layer-squares (a .bearing) * (load (a .case) * a .form .«shape_area» .bottom)))
         ≡ holds (uplift-on (a .bearing) (a .case) (axis b θ))
     uplift-held =
         uplift-cleared (area (a .bearing .plan)) (shape-factor (a .bearing .plan) (a .bearing .thickness)) (a .form .«shape_area» .top) (a .form .«shape_area» .bottom)
@@ -64,8 +64,8 @@ module _ (a : AdmittedBearing) where
         (row-proper (a .bearing .plan) (deforms-in-shear (a .case)) .u-pos) (clears .u-is)
 
     pub rotation-held :
-        leb (5000 * (layers-squared (a .bearing) * (load (a .case) * a .form .«shape_area» .bottom)) + 4 * (r .kv * (a .bearing .modulus * a .form .«shape_area» .top * (θ * (b * b)))))
-        (625 * (r .k * (a .bearing .modulus * a .form .«shape_area» .top * layers-squared (a .bearing))))
+        leb (5000 * (layer-squares (a .bearing) * (load (a .case) * a .form .«shape_area» .bottom)) + 4 * (r .kv * (a .bearing .modulus * a .form .«shape_area» .top * (θ * (b * b)))))
+        (625 * (r .k * (a .bearing .modulus * a .form .«shape_area» .top * layer-squares (a .bearing))))
         ≡ holds (rotation-on (a .bearing) (a .case) (axis b θ))
     rotation-held =
         rotation-cleared (area (a .bearing .plan)) (shape-factor (a .bearing .plan) (a .bearing .thickness)) (a .form .«shape_area» .top) (a .form .«shape_area» .bottom)
@@ -81,16 +81,16 @@ three true y z = both-hold y z
 three false y z = refl
 
 compression-cases : (t : Bool) (b : Bearing) (c : Case) → deforms-in-shear c ≡ t
-    → (holds (stress-within b c (compression-limits t .stress)) && holds (load-within-hundredths b (load c) (compression-limits t .total)) && holds (load-within-hundredths b (c .live) (compression-limits t .live)))
+    → (holds (stress-within b c (compression-limits t .stress)) && holds (stress-within-hundredths-GS b (load c) (compression-limits t .total)) && holds (stress-within-hundredths-GS b (c .live) (compression-limits t .live)))
     ≡ all-hold (compression b c)
 unfolding compression
 compression-cases true b c e =
-    rw e (three (holds (stress-within b c 1600)) (holds (load-within-hundredths b (load c) 166)) (holds (load-within-hundredths b (c .live) 66)))
+    rw e (three (holds (stress-within b c 1600)) (holds (stress-within-hundredths-GS b (load c) 166)) (holds (stress-within-hundredths-GS b (c .live) 66)))
 compression-cases false b c e =
-    rw e (three (holds (stress-within b c 1750)) (holds (load-within-hundredths b (load c) 200)) (holds (load-within-hundredths b (c .live) 100)))
+    rw e (three (holds (stress-within b c 1750)) (holds (stress-within-hundredths-GS b (load c) 200)) (holds (stress-within-hundredths-GS b (c .live) 100)))
 
 pub compression-held : (b : Bearing) (c : Case)
-    → (holds (stress-within b c (compression-limits (deforms-in-shear c) .stress)) && holds (load-within-hundredths b (load c) (compression-limits (deforms-in-shear c) .total)) && holds (load-within-hundredths b (c .live) (compression-limits (deforms-in-shear c) .live)))
+    → (holds (stress-within b c (compression-limits (deforms-in-shear c) .stress)) && holds (stress-within-hundredths-GS b (load c) (compression-limits (deforms-in-shear c) .total)) && holds (stress-within-hundredths-GS b (c .live) (compression-limits (deforms-in-shear c) .live)))
     ≡ all-hold (compression b c)
 compression-held b c = compression-cases (deforms-in-shear c) b c refl
 

@@ -12,7 +12,7 @@ use Rattle.bearings.proofs.Inequalities.{BearingWithin, bearing-within}
 use Rattle.bearings.proofs.Shapes.{Positive, positive}
 use Rattle.bearings.specs.Fractions.{Comparison, Proper, AllProper, EveryProper}
 use Rattle.bearings.specs.Limits.{bearing-outside}
-use Rattle.bearings.specs.Quantities.{area, shape-factor}
+use Rattle.bearings.specs.Quantities.{area, shape-factor, ProperQuantities}
 use Rattle.bearings.specs.declared.bearing.Bearing.{Bearing}
 use Rattle.bearings.specs.declared.bearing.Plan.{Plan}
 use Rattle.bearings.specs.declared.bearing.Plan.the-variants.{Rectangle, Circle}
@@ -107,3 +107,9 @@ every-proper b c within =
         ),
       ),
     )
+
+pub quantities-proper : (b : Bearing) → bearing-outside b ≡ None → ProperQuantities (b .plan) (b .thickness)
+quantities-proper b within =
+    let w = bearing-within b within in
+    let so = positive (b .plan) (b .thickness) (w .sides-so) (w .lamination-so .thickness .0) in
+    (so .area-bottom, so .shape-bottom)

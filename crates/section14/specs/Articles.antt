@@ -32,11 +32,11 @@ GS b = whole (b .modulus) times shape-factor (b .plan) (b .thickness)
 abbrev pub stress-within : Bearing → Case → (most : ℕ) → Comparison
 stress-within b c most = T b c at-most whole most
 
-abbrev pub load-within : Bearing → (pounds : ℕ) → (factor : Fraction) → Comparison
-load-within b pounds factor = stress pounds (b .plan) at-most factor times GS b
+abbrev pub stress-within-GS : Bearing → (pounds : ℕ) → (factor : Fraction) → Comparison
+stress-within-GS b pounds factor = stress pounds (b .plan) at-most factor times GS b
 
 abbrev pub compression-by : (most : ℕ) → (total live : Fraction) → Bearing → Case → List Comparison
-compression-by most total live b c = stress-within b c most ∷ load-within b (load c) total ∷ load-within b (c .live) live ∷ []
+compression-by most total live b c = stress-within b c most ∷ stress-within-GS b (load c) total ∷ stress-within-GS b (c .live) live ∷ []
 
 unfoldable pub compression : Bearing → Case → List Comparison
 compression b c =

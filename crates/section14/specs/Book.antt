@@ -35,5 +35,5 @@ section14-rules = record {
   rest = rest-within;
   articles = section14-articles;
   height = bearing-height;
-  plan = λ b. plan-number (b .plan);
+  plan-number = λ b. plan-number (b .plan);
 }

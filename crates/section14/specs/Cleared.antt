@@ -6,7 +6,7 @@ use Rattle.bearings.specs.Fractions.{Comparison, _over_, _times_, _same-as_}
 use Rattle.bearings.specs.declared.bearing.Bearing.{Bearing}
 use Rattle.bearings.specs.declared.bearing.Plan.{Plan}
 use Rattle.bearings.specs.declared.bearing.Plan.the-variants.{Rectangle, Circle}
-use Rattle.section14.specs.Articles.{deforms-in-shear, load-within}
+use Rattle.section14.specs.Articles.{deforms-in-shear, stress-within-GS}
 use Rattle.section14.specs.Coefficients.{Coefficients, coefficients}
 use Rattle.section14.specs.declared.coefficients.CompressionLimits.{CompressionLimits}
 use Rattle.section14.specs.declared.coefficients.Row.{Row}
@@ -34,9 +34,9 @@ compression-limits true = record { stress = 1600; total = 166; live = 66 }
 compression-limits false = record { stress = 1750; total = 200; live = 100 }
 
 -- nh², in sixteenths of an inch
-abbrev pub layers-squared : Bearing → ℕ
-layers-squared b = b .layers * (b .thickness * b .thickness)
+abbrev pub layer-squares : Bearing → ℕ
+layer-squares b = b .layers * (b .thickness * b .thickness)
 
 -- a factor in hundredths
-abbrev pub load-within-hundredths : Bearing → (pounds : ℕ) → (factor : ℕ) → Comparison
-load-within-hundredths b pounds factor = load-within b pounds (factor over 100)
+abbrev pub stress-within-hundredths-GS : Bearing → (pounds : ℕ) → (factor : ℕ) → Comparison
+stress-within-hundredths-GS b pounds factor = stress-within-GS b pounds (factor over 100)

@@ -2,7 +2,7 @@ ghost use Prim.Native.Nat.{ℕ, _+_, _*_, _≤_, _<_};
 ghost use Rattle.bearings.specs.Fractions.{holds, all-hold};
 ghost use Rattle.section14.specs.Articles.{deforms-in-shear, stress-within, compression, shear, uplift, uplift-on, rotation, rotation-on, steel-total, steel-live, steel};
 ghost use Rattle.section14.specs.Axes.{axis};
-ghost use Rattle.section14.specs.Cleared.{row-place, RowOf, compression-limits, layers-squared, load-within-hundredths};
+ghost use Rattle.section14.specs.Cleared.{row-place, RowOf, compression-limits, layer-squares, stress-within-hundredths-GS};
 ghost use Rattle.rulebook.specs.Cases.{load};
 ghost use mathlib.Core.Path.{_≡_};
 use super::coefficients::CompressionLimits;
@@ -31,7 +31,7 @@ fn row(plan: &Plan, case: &Case) -> Row
     ROWS[place_of_row(plan, case)]
 }
 
-// GAS without the divisor of AS: what the rubber resists with.
+// G times the top of AS.
 fn resistance(admitted: &AdmittedBearing) -> u64
     ensures is { λ r. ⌜ r ≡ now (admitted .entry) .bearing .modulus * now (admitted .entry) .form .«shape_area» .top ⌝ }
     ensures high_bound { λ r. ⌜ r ≤ 32716800000 ⌝ }
@@ -39,7 +39,7 @@ fn resistance(admitted: &AdmittedBearing) -> u64
     admitted.bearing.modulus as u64 * admitted.form.shape_area.top
 }
 
-// The whole load times the divisor of AS.
+// The whole load times the bottom of AS.
 fn shaped_load(admitted: &AdmittedBearing) -> u64
     ensures is { λ r. ⌜ r ≡ load (now (admitted .entry) .case) * now (admitted .entry) .form .«shape_area» .bottom ⌝ }
     ensures high_bound { λ r. ⌜ r ≤ 86784000000 ⌝ }
@@ -49,14 +49,14 @@ fn shaped_load(admitted: &AdmittedBearing) -> u64
 
 // nh², which both rotation articles have.
 fn layer_squares(admitted: &AdmittedBearing) -> u64
-    ensures is { λ r. ⌜ r ≡ layers-squared (now (admitted .entry) .bearing) ⌝ }
+    ensures is { λ r. ⌜ r ≡ layer-squares (now (admitted .entry) .bearing) ⌝ }
     ensures high_bound { λ r. ⌜ r ≤ 5120 ⌝ }
 {
     let thickness = admitted.bearing.thickness as u64;
     admitted.bearing.layers as u64 * (thickness * thickness)
 }
 
-// The resistance times θB², which both rotation articles have.
+// G times the top of AS times θB², which both rotation articles have.
 fn turned_resistance(admitted: &AdmittedBearing, base: u8, angle: u16) -> u64
     requires base_high { ⌜ base ≤ 80 ⌝ }
     requires angle_high { ⌜ angle ≤ 500 ⌝ }
@@ -97,7 +97,7 @@ fn stress_holds(admitted: &AdmittedBearing, most: u64) -> bool
 fn load_holds(admitted: &AdmittedBearing, pounds: u64, factor: u64) -> bool
     requires pounds_high { ⌜ pounds ≤ 2000000 ⌝ }
     requires factor_high { ⌜ factor ≤ 200 ⌝ }
-    ensures { λ r. ⌜ r ≡ holds (load-within-hundredths (now (admitted .entry) .bearing) pounds factor) ⌝ }
+    ensures { λ r. ⌜ r ≡ holds (stress-within-hundredths-GS (now (admitted .entry) .bearing) pounds factor) ⌝ }
 {
     100 * (pounds * admitted.form.shape_area.bottom) <= factor * resistance(admitted)
 }

@@ -1,5 +1,6 @@
 ghost use Rattle.bearings.specs.Fractions.{EveryProper};
 ghost use Rattle.bearings.specs.Limits.{bearing-outside};
+ghost use Rattle.bearings.specs.Quantities.{ProperQuantities};
 ghost use Rattle.rulebook.specs.Books.{refusal, answered};
 ghost use Rattle.rulebook.specs.Cases.{loads-within, rest-within};
 ghost use Rattle.rulebook.specs.Tests.{firstFailing};
@@ -63,6 +64,7 @@ fn articles_of(admitted: &AdmittedBearing) -> [bool; 6]
 pub fn article_list(bearing: &Bearing, case: &Case) -> Result<[bool; 6], Refusal>
     ensures is { λ r. ⌜ r ≡ answered (refusal (bearing-outside (now (bearing .entry))) (loads-within (now (case .entry))) (rest-within (now (case .entry)))) (section14-articles (now (bearing .entry)) (now (case .entry))) ⌝ }
     ensures proper { λ _. ⌜ (bearing-outside (now (bearing .entry)) ≡ None → EveryProper (section14-comparisons (now (bearing .entry)) (now (case .entry)))) ⌝ }
+    ensures quantities { λ _. ⌜ (bearing-outside (now (bearing .entry)) ≡ None → ProperQuantities (now (bearing .entry) .plan) (now (bearing .entry) .thickness)) ⌝ }
 {
     let admitted = AdmittedBearing::new(bearing, case)?;
     Ok(articles_of(&admitted))

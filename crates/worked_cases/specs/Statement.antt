@@ -13,7 +13,7 @@ use Rattle.bearings.specs.declared.bearing.Bearing.{Bearing}
 use Rattle.bearings.specs.declared.bearing.Plan.the-variants.{Rectangle}
 use Rattle.bearings.specs.declared.pad.Pad.{Pad}
 use Rattle.buckling.specs.Cleared.{wholeTerms}
-use Rattle.buckling.specs.Terms.{first-whole, second-whole}
+use Rattle.buckling.specs.Terms.{X′, Y′}
 use Rattle.section14.specs.Book.{section14-rules}
 use Rattle.pads.specs.Book.{pad-rules}
 use Rattle.worked_cases.specs.declared.answers.WorkedAnswers.{WorkedAnswers}
@@ -25,42 +25,46 @@ of-bearing = verdictOf section14-rules
 abbrev pub of-pad : Pad → Case → Result Verdict Refusal
 of-pad = verdictOf pad-rules
 
-abbrev pub ThirteenCases : Type 0
-ThirteenCases =
+-- what the definitions answer to cases 1 to 6 and 8 to 13
+abbrev pub asked : List (Result Verdict Refusal)
+asked =
     -- 1 to 6: bearing A under case A; more live load; more movement; more rotation, twice; thinner laminates
-    (of-bearing bearing-A case-A ≡ Ok Passes)
-    × (of-bearing bearing-A (case 99999 88001 150 155 0 1 1) ≡ Ok (Fails 1))
-    × (of-bearing bearing-A (case 100000 88000 151 155 0 1 1) ≡ Ok (Fails 2))
-    × (of-bearing bearing-A (case 100000 88000 150 177 0 1 1) ≡ Ok (Fails 3))
-    × (of-bearing bearing-A (case 100000 88000 150 156 0 1 1) ≡ Ok (Fails 4))
-    × (of-bearing (bearing (Rectangle 20 40) 5 2) case-A ≡ Ok (Fails 6))
-    -- 7: X′ and Y′ of bearing A where the deck is free to translate
-    × ((first-whole bearing-A case-A ≡ 122207) × (second-whole bearing-A ≡ 41076))
-    -- 8 and 9: a slender bearing, with the deck free to translate and not
-    × (of-bearing slender (case 20000 20000 0 0 0 1 1) ≡ Ok (Fails 5))
-    × (of-bearing slender (case 20000 20000 0 0 0 0 1) ≡ Ok Passes)
-    -- 10 and 11: bearing C, a circle
-    × (of-bearing bearing-C (case 100000 50000 0 45 60 0 0) ≡ Ok Passes)
-    × (of-bearing bearing-C (case 100000 50000 0 45 61 0 0) ≡ Ok (Fails 3))
-    -- 12 and 13: a pad
-    × (of-pad pad (case 60000 40000 25 37 0 1 1) ≡ Ok Passes)
-    × (of-pad pad (case 60000 40000 25 38 0 1 1) ≡ Ok (Fails 3))
-
--- the answers of `worked_answers`, beside what the definitions give: cases 1 to 6 and 8 to 13, and case 7
-abbrev pub AnswersOf : WorkedAnswers → Type 0
-AnswersOf r =
-    (map Ok (r .verdicts) ≡ (
     of-bearing bearing-A case-A
     ∷ of-bearing bearing-A (case 99999 88001 150 155 0 1 1)
     ∷ of-bearing bearing-A (case 100000 88000 151 155 0 1 1)
     ∷ of-bearing bearing-A (case 100000 88000 150 177 0 1 1)
     ∷ of-bearing bearing-A (case 100000 88000 150 156 0 1 1)
     ∷ of-bearing (bearing (Rectangle 20 40) 5 2) case-A
+    -- 8 and 9: a slender bearing, with the deck free to translate and not
     ∷ of-bearing slender (case 20000 20000 0 0 0 1 1)
     ∷ of-bearing slender (case 20000 20000 0 0 0 0 1)
+    -- 10 and 11: bearing C, a circle
     ∷ of-bearing bearing-C (case 100000 50000 0 45 60 0 0)
     ∷ of-bearing bearing-C (case 100000 50000 0 45 61 0 0)
+    -- 12 and 13: a pad
     ∷ of-pad pad (case 60000 40000 25 37 0 1 1)
     ∷ of-pad pad (case 60000 40000 25 38 0 1 1)
+    ∷ []
+
+-- all thirteen: the twelve verdicts, and of case 7 X′ and Y′ of bearing A where the deck is free to translate
+abbrev pub ThirteenCases : Type 0
+ThirteenCases =
+    (asked ≡ (
+    Ok Passes
+    ∷ Ok (Fails 1)
+    ∷ Ok (Fails 2)
+    ∷ Ok (Fails 3)
+    ∷ Ok (Fails 4)
+    ∷ Ok (Fails 6)
+    ∷ Ok (Fails 5)
+    ∷ Ok Passes
+    ∷ Ok Passes
+    ∷ Ok (Fails 3)
+    ∷ Ok Passes
+    ∷ Ok (Fails 3)
     ∷ []))
-    × (r .terms ≡ wholeTerms bearing-A case-A)
+    × ((X′ bearing-A case-A ≡ 122207) × (Y′ bearing-A ≡ 41076))
+
+-- the table that `worked_answers` returns is what the definitions answer
+abbrev pub AnswersOf : WorkedAnswers → Type 0
+AnswersOf r = (map Ok (r .verdicts) ≡ asked) × (r .terms ≡ wholeTerms bearing-A case-A)

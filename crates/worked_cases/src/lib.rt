@@ -1,4 +1,4 @@
-// The thirteen worked cases of the documents: as one statement over the definitions, and as tests of the code.
+// The thirteen worked cases of docs/SECTION14.md and docs/PADS.md: as one statement over the definitions, and as tests of the code.
 ghost use Rattle.worked_cases.specs.Statement.{ThirteenCases, AnswersOf};
 
 mod answers;
@@ -7,7 +7,7 @@ pub use answers::WorkedAnswers;
 use buckling::WholeTerms;
 use rulebook::Verdict;
 
-// The answers that the documents print. The contract says that they follow from the definitions.
+// The answers that these pages print. The contract says that they follow from the definitions.
 pub fn worked_answers() -> WorkedAnswers
     ensures joint { λ _. ⌜ ThirteenCases ⌝ }
     ensures answers { λ r. ⌜ AnswersOf r ⌝ }

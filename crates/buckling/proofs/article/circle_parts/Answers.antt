@@ -5,6 +5,6 @@ pub returns : need.returns
 returns c =
     let a = c .args .admitted .now in
     record {
-      is = simp (c .deck-factor .ensures, c .rubber-height .ensures) (circle-parts (a .bearing) (a .case) (c .args .diameter) (c .pre));
-      small = simp (c .deck-factor .ensures, c .rubber-height .ensures) (circle-small a (c .args .diameter) (c .pre));
+      is = simp (c .deck-units .ensures, c .rubber-height .ensures .is) (circle-parts (a .bearing) (a .case) (c .args .diameter) (c .pre));
+      small = simp (c .deck-units .ensures, c .rubber-height .ensures .is) (circle-small a (c .args .diameter) (c .pre));
     }

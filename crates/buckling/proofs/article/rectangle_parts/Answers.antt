@@ -16,8 +16,8 @@ pub returns : need.returns
 returns c =
     let a = c .args .admitted .now in
     record {
-      is = simp (c .deck-factor .ensures, c .rubber-height .ensures, c .min-lesser .ensures, c .max-greater .ensures)
+      is = simp (c .deck-units .ensures, c .rubber-height .ensures .is, c .min-lesser .ensures, c .max-greater .ensures)
           (rectangle-parts (a .bearing) (a .case) (c .args .length) (c .args .width) (c .pre));
-      small = simp (c .deck-factor .ensures, c .rubber-height .ensures, c .min-lesser .ensures, c .max-greater .ensures)
+      small = simp (c .deck-units .ensures, c .rubber-height .ensures .is, c .min-lesser .ensures, c .max-greater .ensures)
           (rectangle-small a (c .args .length) (c .args .width) (c .pre));
     }
