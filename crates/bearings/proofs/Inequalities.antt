@@ -1,12 +1,11 @@
 -- The inequalities that the limits give.
-use Prim.Native.Nat.{ℕ, _*_, _≤_}
+use Prim.Native.Nat.{_*_, _≤_}
 use lib.Dec.{leb}
-use mathlib.Core.Bool.{Bool, true, false, _&&_, cond}
+use mathlib.Core.Bool.{Bool, true}
 use mathlib.Core.List.{List, [], _∷_, _++_}
-use mathlib.Core.Path.{_≡_, refl}
+use mathlib.Core.Path.{_≡_}
 use Rattle.std.proofs.shelf.Tests.{and-parts, leb-true}
-use Rattle.std.specs.declared.option.Option.{Option}
-use Rattle.std.specs.declared.option.Option.the-variants.{Some, None}
+use Rattle.std.specs.declared.option.Option.the-variants.{None}
 use Rattle.rulebook.proofs.Passing.{between-ends, none-fails}
 use Rattle.rulebook.specs.Cases.{load, loads-within, rest-within}
 use Rattle.rulebook.specs.Tests.{between, firstFailing}

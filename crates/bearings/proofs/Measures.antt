@@ -1,7 +1,5 @@
 -- Plan numbers, by the area in square inches.
-use Prim.Native.Nat.{ℕ, _+_, _*_}
 use native.Mathlib.Omega.{arith}
-use mathlib.Core.Path.{_≡_}
 use Rattle.bearings.specs.Quantities.{area}
 use Rattle.bearings.specs.Sizes.{plan-number, PlanNumber}
 use Rattle.bearings.specs.declared.bearing.Plan.{Plan}

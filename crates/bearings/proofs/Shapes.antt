@@ -1,6 +1,5 @@
 -- The forms of the two plans.
 use Prim.Native.Nat.{ℕ, _+_, _*_, _≤_, _<_}
-use mathlib.Core.Path.{_≡_}
 use native.Mathlib.Nat.{mul-le-mul}
 use native.Mathlib.Omega.{arith}
 use Rattle.bearings.specs.Bounds.{SidesWithin}

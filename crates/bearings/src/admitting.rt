@@ -5,7 +5,7 @@ ghost use Rattle.bearings.specs.Limits.{bearing-outside, pad-outside};
 ghost use Rattle.rulebook.specs.Books.{refusal};
 ghost use Rattle.rulebook.specs.Cases.{loads-within, rest-within};
 ghost use Rattle.std.specs.Results.{Cases};
-ghost use Rattle.std.specs.declared.option.Option.the-variants.{Some, None};
+ghost use Rattle.std.specs.declared.option.Option.the-variants.{Some};
 ghost use mathlib.Core.Path.{_≡_};
 use super::AdmittedBearing;
 use super::AdmittedPad;

@@ -1,6 +1,6 @@
 -- The article by whole numbers and the exact one: what the first lets through meets the second, and what meets the second with its first term one
 -- fiftieth larger is let through by the first.
-use Prim.Native.Nat.{ℕ, _+_, _*_, _/_, _≤_, _<_}
+use Prim.Native.Nat.{ℕ, _+_, _*_, _≤_, _<_}
 use lib.Dec.{leb}
 use mathlib.Core.Bool.{true}
 use mathlib.Core.Path.{_≡_, sym, _∙_}

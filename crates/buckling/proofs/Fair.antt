@@ -1,5 +1,5 @@
 -- What the limits say of the fractions in the article.
-use Prim.Native.Nat.{ℕ, _+_, _*_, min, max, _≤_, _<_}
+use Prim.Native.Nat.{ℕ, _+_, _*_, min, _≤_, _<_}
 use lib.Dec.{eqb}
 use mathlib.Core.Bool.{Bool, true, false, cond}
 use mathlib.Core.Path.{_≡_, refl}

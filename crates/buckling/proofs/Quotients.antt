@@ -1,8 +1,8 @@
 -- The code's quotients are the article's terms, and are small.
-use Prim.Native.Nat.{ℕ, _+_, _*_, min, max, _≤_, _<_}
-use mathlib.Core.Logic.{_⊎_, inl, inr}
+use Prim.Native.Nat.{ℕ, _+_, _*_, min, max, _≤_}
+use mathlib.Core.Logic.{inl, inr}
 use mathlib.Core.Path.{_≡_, ap, sym, subst}
-use native.Mathlib.Nat.{mul-le-mul, mul-le-mul-left, mul-pos}
+use native.Mathlib.Nat.{mul-le-mul}
 use native.Mathlib.Omega.{arith}
 use Rattle.std.proofs.shelf.Tests.{cases-lt}
 use Rattle.rulebook.specs.declared.case.Case.{Case}

@@ -2,7 +2,7 @@
 -- root, y/f for the second, g for the modulus, s/m for what stands under the root, r for its root in thousandths, first and second for the terms
 -- as whole millionths.
 use Prim.Native.Nat.{ℕ, _+_, _*_, _≤_, _<_}
-use mathlib.Core.Logic.{_⊎_, inl, inr}
+use mathlib.Core.Logic.{inl, inr}
 use native.Mathlib.Nat.{mul-le-mul-left, mul-le-mul-right, mul-le-mul, le-of-mul-le-mul-right, mul-pos}
 use native.Mathlib.Omega.{arith}
 use Rattle.std.proofs.shelf.Tests.{cases-lt}

@@ -1,8 +1,8 @@
 -- The whole terms that the code computes are the article's.
-use Prim.Native.Nat.{ℕ, _+_, _*_, _/_, _%_, min, _≤_, _<_}
+use Prim.Native.Nat.{ℕ, _+_, _*_, _/_, _≤_, _<_}
 use lib.Dec.{leb}
-use mathlib.Core.Path.{_≡_, ap, sym, _∙_}
-use native.Mathlib.Nat.{mul-le-mul, mul-le-mul-left, mul-le-mul-right, mul-pos, div-le-of-le-mul, div-mul-le-self}
+use mathlib.Core.Path.{_≡_, ap}
+use native.Mathlib.Nat.{mul-le-mul, mul-le-mul-left, mul-pos, div-le-of-le-mul, div-mul-le-self}
 use native.Mathlib.Omega.{arith}
 use Rattle.std.proofs.shelf.Tests.{le-leb, leb-true}
 use Rattle.std.specs.declared.option.Option.the-variants.{None}
@@ -17,7 +17,7 @@ use Rattle.bearings.specs.Limits.{bearing-outside}
 use Rattle.bearings.specs.Quantities.{area}
 use Rattle.bearings.specs.declared.admitted.AdmittedBearing.{AdmittedBearing}
 use Rattle.bearings.specs.declared.bearing.Bearing.{Bearing}
-use Rattle.buckling.proofs.Fair.{FairPlan, fair-plan, fair-terms}
+use Rattle.buckling.proofs.Fair.{fair-plan, fair-terms}
 use Rattle.buckling.proofs.Roots.{Root, root-under, root-is, root-passes, root-most}
 use Rattle.buckling.specs.Article.{buckling}
 use Rattle.buckling.specs.Cleared.{PartsOf, SmallParts}

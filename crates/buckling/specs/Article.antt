@@ -1,5 +1,5 @@
 -- The buckling article: by whole numbers, which decide the verdict, and exactly.
-use Prim.Native.Nat.{ℕ, _*_}
+use Prim.Native.Nat.{_*_}
 use mathlib.Core.List.{[], _∷_}
 use Rattle.rulebook.specs.Cases.{load}
 use Rattle.rulebook.specs.declared.case.Case.{Case}

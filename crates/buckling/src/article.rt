@@ -1,4 +1,4 @@
-ghost use Prim.Native.Nat.{ℕ, _+_, _*_, _≤_, _<_};
+ghost use Prim.Native.Nat.{_+_, _*_, _≤_, _<_};
 ghost use Rattle.bearings.specs.Fractions.{holds};
 ghost use Rattle.bearings.specs.Limits.{bearing-outside};
 ghost use Rattle.bearings.specs.declared.bearing.Plan.the-variants.{Rectangle, Circle};

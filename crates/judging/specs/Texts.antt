@@ -3,8 +3,7 @@ use Prim.Native.Nat.{ℕ}
 use lib.Chars.{codes}
 use lib.ListN.{getD}
 use mathlib.Core.Bool.{Bool, true, false}
-use mathlib.Core.List.{List, [], _∷_, _++_}
-use Rattle.judge_lines.specs.declared.fault.LineFault.{LineFault}
+use mathlib.Core.List.{List, [], _++_}
 use Rattle.judge_lines.specs.declared.fault.WordFault.{WordFault}
 use Rattle.judge_lines.specs.declared.fault.WordFault.the-variants.{Missing, NoKind, NotANumber, TooLarge, OneTooMany}
 use Rattle.rulebook.specs.Refusals.{numberOf}

@@ -1,6 +1,6 @@
 -- The code's comparisons, cleared of fractions, are those of the articles. P is a load in pounds, A the area, S the shape factor, AS with the
 -- code's st/sb, G the modulus.
-use Prim.Native.Nat.{ℕ, _+_, _*_, _≤_, _<_}
+use Prim.Native.Nat.{ℕ, _*_, _<_}
 use lib.Dec.{leb}
 use mathlib.Core.Path.{_≡_, ap}
 use native.Mathlib.Nat.{mul-pos}

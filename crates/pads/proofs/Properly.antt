@@ -1,5 +1,5 @@
 -- Every side of every comparison is a number.
-use Prim.Native.Nat.{ℕ, _*_, _<_}
+use Prim.Native.Nat.{ℕ, _<_}
 use mathlib.Core.Path.{_≡_}
 use native.Mathlib.Nat.{mul-pos}
 use native.Mathlib.Omega.{arith}

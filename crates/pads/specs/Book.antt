@@ -1,5 +1,4 @@
 -- The pad book: what it means. The deck's mark and the shear mark play no part in its articles.
-use Prim.Native.Nat.{ℕ}
 use mathlib.Core.Bool.{Bool}
 use mathlib.Core.List.{List, [], _∷_, map}
 use Rattle.rulebook.specs.Books.{Rules}

@@ -1,5 +1,6 @@
 -- Verdicts and their numbers.
 use Prim.Native.Nat.{ℕ}
+use lib.Dec.{eqb}
 use mathlib.Core.Bool.{Bool, true, false}
 use Rattle.std.specs.declared.option.Option.{Option}
 use Rattle.std.specs.declared.option.Option.the-variants.{Some, None}
@@ -18,6 +19,11 @@ verdictBy (Some article) = Fails article
 abbrev pub verdictNumber : Verdict → ℕ
 verdictNumber Passes = 0
 verdictNumber (Fails article) = article
+
+-- whether an answer is a verdict of number 0
+abbrev pub numbered-0 : Result Verdict Refusal → Bool
+numbered-0 (Ok verdict) = eqb (verdictNumber verdict) 0
+numbered-0 (Err why) = false
 
 -- whether an answer is a verdict that every article holds
 abbrev pub passing : Result Verdict Refusal → Bool

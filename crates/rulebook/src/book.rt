@@ -1,6 +1,6 @@
-ghost use Prim.Native.Nat.{ℕ, _<_, _^_};
+ghost use Prim.Native.Nat.{_<_, _^_};
 ghost use Rattle.rulebook.specs.Books.{Rules, within, passes, verdictOf, heightOf, planNumberOf};
-ghost use Rattle.rulebook.specs.Verdicts.{passing};
+ghost use Rattle.rulebook.specs.Verdicts.{passing, numbered-0};
 ghost use Rattle.rulebook.specs.declared.case.Case.{Case};
 ghost use Rattle.std.specs.declared.option.Option.the-variants.{None};
 ghost use denote.Ref.{now};
@@ -67,9 +67,11 @@ fn is_pass(answer: Result<Verdict, Refusal>) -> bool
     }
 }
 
-// Whether an item passes under a case, by any book: both lie within the limits, and every article holds.
+// Whether an item passes under a case, by any book: both lie within the limits, and every article holds. The verdict then has the number 0, and
+// in no other case.
 pub fn item_passes<B: RuleBook>(book: &B, item: &B::Item, case: &Case) -> bool
-    ensures { λ r. ⌜ r ≡ passes (rules (now (book .entry))) (now (item .entry)) (now (case .entry)) ⌝ }
+    ensures is { λ r. ⌜ r ≡ passes (rules (now (book .entry))) (now (item .entry)) (now (case .entry)) ⌝ }
+    ensures number { λ r. ⌜ r ≡ numbered-0 (verdictOf (rules (now (book .entry))) (now (item .entry)) (now (case .entry))) ⌝ }
 {
     is_pass(book.verdict(item, case))
 }

@@ -1,8 +1,8 @@
 -- The comparisons at an admitted bearing.
-use Prim.Native.Nat.{ℕ, _+_, _*_, max, _≤_, _<_}
-use lib.Dec.{leb, eqb}
-use mathlib.Core.Bool.{Bool, true, false, _&&_, cond}
-use mathlib.Core.List.{List, [], _∷_, map}
+use Prim.Native.Nat.{ℕ, _+_, _*_, max}
+use lib.Dec.{leb}
+use mathlib.Core.Bool.{Bool, true, false, _&&_}
+use mathlib.Core.List.{[], _∷_, map}
 use mathlib.Core.Path.{_≡_, refl, ap, sym, _∙_}
 use Rattle.rulebook.specs.Cases.{load}
 use Rattle.rulebook.specs.declared.case.Case.{Case}
@@ -22,7 +22,6 @@ use Rattle.section14.specs.Articles.{deforms-in-shear, stress-within, compress
 use Rattle.section14.specs.Axes.{Axis, axis, axes}
 use Rattle.section14.specs.Book.{section14-articles}
 use Rattle.section14.specs.Cleared.{Clears, compression-limits, stress-within-hundredths-GS, layer-squares}
-use Rattle.section14.specs.Coefficients.{coefficients}
 use Rattle.section14.specs.declared.coefficients.Row.{Row}
 
 module _ (a : AdmittedBearing) where

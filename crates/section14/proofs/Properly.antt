@@ -1,24 +1,23 @@
 -- Every side of every comparison is a number.
-use Prim.Native.Nat.{ℕ, _+_, _*_, max, _≤_, _<_}
-use mathlib.Core.Bool.{Bool, true, false, cond}
-use mathlib.Core.List.{List, [], _∷_, map}
+use Prim.Native.Nat.{ℕ, _*_, max, _<_}
+use mathlib.Core.Bool.{Bool, true, false}
+use mathlib.Core.List.{[], _∷_, map}
 use mathlib.Core.Path.{_≡_, refl}
 use native.Mathlib.Nat.{mul-pos}
 use native.Mathlib.Omega.{arith}
 use Rattle.std.specs.declared.option.Option.the-variants.{None}
-use Rattle.rulebook.specs.Cases.{load}
 use Rattle.rulebook.specs.declared.case.Case.{Case}
 use Rattle.bearings.proofs.Inequalities.{BearingWithin, bearing-within}
 use Rattle.bearings.proofs.Shapes.{Positive, positive}
 use Rattle.bearings.specs.Fractions.{Comparison, Proper, AllProper, EveryProper}
 use Rattle.bearings.specs.Limits.{bearing-outside}
-use Rattle.bearings.specs.Quantities.{area, shape-factor, ProperQuantities}
+use Rattle.bearings.specs.Quantities.{area, ProperQuantities}
 use Rattle.bearings.specs.declared.bearing.Bearing.{Bearing}
 use Rattle.bearings.specs.declared.bearing.Plan.{Plan}
 use Rattle.bearings.specs.declared.bearing.Plan.the-variants.{Rectangle, Circle}
 use Rattle.buckling.specs.Article.{buckling}
 use Rattle.section14.proofs.Rows.{ProperRow, row-proper}
-use Rattle.section14.specs.Articles.{deforms-in-shear, T, V, GS, q, row, compression, shear, uplift, uplift-on, rotation, rotation-on, steel}
+use Rattle.section14.specs.Articles.{deforms-in-shear, GS, q, row, compression, shear, uplift, uplift-on, rotation, rotation-on, steel}
 use Rattle.section14.specs.Axes.{Axis, axis, axes}
 use Rattle.section14.specs.Book.{section14-comparisons}
 

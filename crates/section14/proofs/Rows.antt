@@ -1,9 +1,8 @@
 -- The four rows of the table.
-use Prim.Native.Nat.{ℕ, _≤_, _<_}
+use Prim.Native.Nat.{ℕ, _<_}
 use lib.ListN.{getD}
 use mathlib.Core.Bool.{Bool, true, false}
 use mathlib.Core.List.{List, [], _∷_}
-use mathlib.Core.Path.{_≡_}
 use native.Mathlib.Omega.{arith}
 use Rattle.bearings.specs.declared.bearing.Plan.{Plan}
 use Rattle.bearings.specs.declared.bearing.Plan.the-variants.{Rectangle, Circle}

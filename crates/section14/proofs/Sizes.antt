@@ -1,5 +1,5 @@
 -- Heights and plan numbers fit 32 bits.
-use Prim.Native.Nat.{ℕ, _+_, _*_, _^_, _≤_, _<_}
+use Prim.Native.Nat.{_^_, _<_}
 use native.Mathlib.Nat.{mul-le-mul}
 use native.Mathlib.Omega.{arith}
 use Rattle.bearings.proofs.Inequalities.{BearingWithin}

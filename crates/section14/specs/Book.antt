@@ -1,5 +1,4 @@
 -- The Section 14 book: what it means.
-use Prim.Native.Nat.{ℕ}
 use mathlib.Core.Bool.{Bool}
 use mathlib.Core.List.{List, [], _∷_, map}
 use Rattle.rulebook.specs.Books.{Rules}

@@ -1,4 +1,4 @@
-ghost use Prim.Native.Nat.{ℕ, _+_, _*_, _≤_, _<_};
+ghost use Prim.Native.Nat.{_+_, _*_, _≤_};
 ghost use Rattle.bearings.specs.Fractions.{holds, all-hold};
 ghost use Rattle.section14.specs.Articles.{deforms-in-shear, stress-within, compression, shear, uplift, uplift-on, rotation, rotation-on, steel-total, steel-live, steel};
 ghost use Rattle.section14.specs.Axes.{axis};

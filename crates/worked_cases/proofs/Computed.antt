@@ -1,6 +1,6 @@
 -- The worked cases, computed.
 use mathlib.Core.List.{[], _∷_}
-use mathlib.Core.Path.{refl, ap, ap₂, sym}
+use mathlib.Core.Path.{refl}
 use Rattle.bearings.specs.Quantities.{area, shape-factor}
 use Rattle.buckling.specs.Article.{buckling}
 use Rattle.buckling.specs.Greatest.{greatest}

@@ -1,4 +1,4 @@
-use Prim.Native.Nat.{_+_, _*_, _<_}
+use Prim.Native.Nat.{_<_}
 use native.Mathlib.Nat.{le-div-iff-mul-le, div-lt-iff-lt-mul}
 use native.Mathlib.Omega.{arith}
 use Rattle.buckling.proofs.Roots.{root-low, root-high}

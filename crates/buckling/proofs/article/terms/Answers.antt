@@ -1,4 +1,3 @@
-use Prim.Native.Nat.{_<_}
 use native.Mathlib.Omega.{arith}
 use mathlib.Core.Path.{_∙_}
 use Rattle.bearings.proofs.Refusing.{bearing-so}

@@ -1,4 +1,3 @@
-use Prim.Native.Nat.{_≤_}
 use native.Mathlib.Omega.{arith}
 use mathlib.Core.Path.{sym, _∙_}
 use Rattle.judge_lines.proofs.Counting.{digits-more, counted-more, Counted, number-not, number-large, number-is}

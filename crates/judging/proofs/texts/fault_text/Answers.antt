@@ -1,4 +1,3 @@
-use mathlib.Core.Path.{refl}
 use Rattle.judging.proofs.texts.fault_text.Needs as need
 
 pub returns-in-NotANumber : need.returns-in-NotANumber

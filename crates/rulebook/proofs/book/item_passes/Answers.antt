@@ -1,5 +1,5 @@
 use mathlib.Core.Path.{ap, _∙_}
-use Rattle.rulebook.proofs.Passing.{passes-so}
+use Rattle.rulebook.proofs.Passing.{passes-so, numbered-so}
 use Rattle.rulebook.specs.Verdicts.{passing}
 use Rattle.rulebook.proofs.book.item_passes.Needs as need
 
@@ -8,4 +8,8 @@ returns g c =
     let rules = g .B·RuleBook .rules (c .args .book .now) in
     let item = c .args .item .now in
     let case = c .args .case .now in
-    c .is-pass .ensures ∙ ap passing (c .verdict .ensures) ∙ passes-so (rules .outside item) (rules .loads case) (rules .rest case) (rules .articles item case)
+    let answer = c .is-pass .ensures ∙ ap passing (c .verdict .ensures) in
+    record {
+      is = answer ∙ passes-so (rules .outside item) (rules .loads case) (rules .rest case) (rules .articles item case);
+      number = answer ∙ numbered-so (rules .outside item) (rules .loads case) (rules .rest case) (rules .articles item case);
+    }

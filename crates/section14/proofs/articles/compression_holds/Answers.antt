@@ -1,4 +1,3 @@
-use mathlib.Core.Path.{ap}
 use Rattle.section14.proofs.Held.{compression-held}
 use Rattle.section14.proofs.articles.compression_holds.Needs as need
 

@@ -1,6 +1,5 @@
-use mathlib.Core.Path.{ap, sym, _∙_}
+use mathlib.Core.Path.{sym, _∙_}
 use Rattle.std.proofs.shelf.Results.{err-from-errBy}
-use Rattle.rulebook.specs.Books.{within, refusal, answered}
 use Rattle.bearings.proofs.Refusing.{admitted, refused}
 use Rattle.bearings.proofs.Inequalities.{bearing-within}
 use Rattle.bearings.proofs.admitted.AdmittedBearing.new.Needs as need

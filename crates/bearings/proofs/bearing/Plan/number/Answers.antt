@@ -1,4 +1,3 @@
-use mathlib.Core.Path.{refl}
 use Rattle.bearings.specs.declared.bearing.Plan.the-variants.{Rectangle, Circle}
 use Rattle.bearings.proofs.Measures.{plan-number-so}
 use Rattle.bearings.proofs.bearing.Plan.number.Needs as need

@@ -1,5 +1,3 @@
-use Rattle.bearings.specs.Bounds.{SidesWithin}
-use Rattle.bearings.specs.Forms.{FormOf}
 use Rattle.bearings.proofs.Shapes.{rectangle-is, rectangle-small, circle-is, circle-small}
 use Rattle.bearings.proofs.form.Form.of.Needs as need
 

@@ -1,6 +1,3 @@
-use Prim.Native.Nat.{_+_, _*_}
-use native.Mathlib.Nat.{mul-le-mul}
-use native.Mathlib.Omega.{arith}
 use mathlib.Core.Path.{refl}
 use Rattle.bearings.proofs.Inequalities.{bearing-within}
 use Rattle.section14.proofs.Sizes.{height-fits, plan-fits}
