@@ -1,4 +1,5 @@
 ghost use Rattle.judging.specs.Texts.{answerText, reasonText, verdictText, faultText, heldText};
+ghost use Rattle.section14.specs.Book.{section14-names};
 ghost use Rattle.std.specs.declared.option.Option.the-variants.{Some};
 ghost use mathlib.Core.Path.{_≡_};
 use super::Answer;
@@ -43,7 +44,7 @@ impl fmt::Display for Why as WhyDisplay {
     }
 }
 
-// The verdict, and the articles that both books have.
+// The verdict, and the first three articles, which have the same names in both books.
 #[derive(Clone, Copy)]
 struct Shared {
     verdict: Verdict,
@@ -51,7 +52,7 @@ struct Shared {
 }
 
 impl fmt::Display for Shared as SharedDisplay {
-    ghost shown = { λ shared. Some (verdictText (shared .verdict) (shared .articles)) };
+    ghost shown = { λ shared. Some (verdictText section14-names (shared .verdict) (shared .articles)) };
 
     fn fmt<W: fmt::Write>(&self, f: &mut fmt::Formatter<W>) -> fmt::Result {
         let number = self.verdict.number();

@@ -1,4 +1,6 @@
 -- The pad book: what it means. The deck's mark and the shear mark play no part in its articles.
+use Prim.Native.Nat.{ℕ}
+use lib.Chars.{codes}
 use mathlib.Core.Bool.{Bool}
 use mathlib.Core.List.{List, [], _∷_, map}
 use Rattle.rulebook.specs.Books.{Rules}
@@ -13,6 +15,10 @@ use Rattle.pads.specs.Articles.{plan-of, compression, shear, uplift, stability
 -- the comparisons of the articles 1 to 4
 abbrev pub pad-comparisons : Pad → Case → List (List Comparison)
 pad-comparisons p c = compression p c ∷ shear p c ∷ uplift p c ∷ stability p ∷ []
+
+-- their names
+abbrev pub pad-names : List (List ℕ)
+pad-names = codes "compression" ∷ codes "shear" ∷ codes "uplift" ∷ codes "stability" ∷ []
 
 -- whether each article holds
 unfoldable pub pad-articles : Pad → Case → List Bool

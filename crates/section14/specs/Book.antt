@@ -1,4 +1,6 @@
 -- The Section 14 book: what it means.
+use Prim.Native.Nat.{ℕ}
+use lib.Chars.{codes}
 use mathlib.Core.Bool.{Bool}
 use mathlib.Core.List.{List, [], _∷_, map}
 use Rattle.rulebook.specs.Books.{Rules}
@@ -20,6 +22,17 @@ section14-comparisons b c =
     ∷ rotation b c
     ∷ (buckling b c ∷ [])
     ∷ steel b c
+    ∷ []
+
+-- their names
+abbrev pub section14-names : List (List ℕ)
+section14-names =
+    codes "compression"
+    ∷ codes "shear"
+    ∷ codes "uplift"
+    ∷ codes "rotation"
+    ∷ codes "buckling"
+    ∷ codes "steel"
     ∷ []
 
 -- whether each article holds
