@@ -1,3 +1,5 @@
+#![tactic(auto)]
+
 // Bearings and pads: their fields, limits, heights and plan numbers, and the whole numbers that the articles compare.
 
 mod admitted;

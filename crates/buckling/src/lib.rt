@@ -1,3 +1,5 @@
+#![tactic(auto)]
+
 // The buckling article (14.6.5.3.6).
 
 mod article;

@@ -1,3 +1,5 @@
+#![tactic(auto)]
+
 // The sections of a shelf's text: an opening, the items of the shelf, and the calls on it.
 
 mod collecting;

@@ -1,3 +1,5 @@
+#![tactic(auto)]
+
 // Lists of calls on a shelf, and the guarantee over every one of them.
 
 mod serving;

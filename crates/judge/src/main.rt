@@ -1,3 +1,5 @@
+#![tactic(auto)]
+
 // Reads judgements from standard input, a line each, and prints the answer to each line.
 
 use judging::answers;

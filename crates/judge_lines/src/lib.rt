@@ -1,3 +1,5 @@
+#![tactic(auto)]
+
 // Cuts an input into lines, and reads a line: the judgement that it asks for, the entry of a shelf's text that it is, or the first word at fault.
 
 mod entries;

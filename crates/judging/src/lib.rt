@@ -1,3 +1,5 @@
+#![tactic(auto)]
+
 // The answers to the judgements that an input asks for, a line of text for each of its lines.
 
 mod answer;

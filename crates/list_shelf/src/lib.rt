@@ -1,3 +1,5 @@
+#![tactic(auto)]
+
 // A shelf over a table of the caller, for items of any kind.
 
 mod list;

@@ -1,3 +1,5 @@
+#![tactic(auto)]
+
 // The pad book: AASHTO LRFD Bridge Design Specifications, Article 14.7.6.3, for plain elastomeric pads.
 
 mod articles;

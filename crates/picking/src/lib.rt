@@ -1,3 +1,5 @@
+#![tactic(auto)]
+
 // The search for the best item on hand, for every kind of item that a book can name.
 
 mod found;

@@ -1,3 +1,5 @@
+#![tactic(auto)]
+
 // A shelf from one bearing: a place for each number of layers from 1 to the bearing's own.
 
 mod calls;

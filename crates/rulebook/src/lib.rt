@@ -1,3 +1,5 @@
+#![tactic(auto)]
+
 // What every rule book has in common: the case of a bridge seat, verdicts, refusals, and the trait of a book.
 
 mod book;

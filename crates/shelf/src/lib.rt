@@ -1,3 +1,5 @@
+#![tactic(auto)]
+
 // What a shelf of bearings means, the calls that every shelf answers, and how the counts of one place change.
 
 mod answer;

@@ -1,3 +1,5 @@
+#![tactic(auto)]
+
 // Programs that hold slips, and a book of other items than bearings and pads, as examples of the calls.
 
 mod blocks;

@@ -1,3 +1,5 @@
+#![tactic(auto)]
+
 // The texts of answers to calls on shelves of bearings and of pads.
 
 mod answers;

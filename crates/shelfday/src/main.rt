@@ -1,3 +1,5 @@
+#![tactic(auto)]
+
 // Reads shelves and calls from standard input, a line each, and prints the answers.
 
 use shelf_days::day;

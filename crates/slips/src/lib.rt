@@ -1,3 +1,5 @@
+#![tactic(auto)]
+
 // Slips: a pick hands one over, and one order or one return ends it.
 
 mod picks;

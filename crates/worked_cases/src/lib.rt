@@ -1,3 +1,5 @@
+#![tactic(auto)]
+
 // The thirteen worked cases of docs/SECTION14.md and docs/PADS.md: as one statement over the definitions, and as tests of the code.
 ghost use Rattle.worked_cases.specs.Statement.{ThirteenCases, AnswersOf};
 
