@@ -25,7 +25,7 @@ fn answer<B: RuleBook, S: Shelf<Item = B::Item>>(
     shelf: &mut S,
     call: Request,
 ) -> Answer<B::Item>
-    ensures { Step (meaning shelf.old) (asked (rules book.now) call) result (meaning shelf.new) }
+    ensures { Step (S.meaning shelf.old) (asked (B.rules book.now) call) result (S.meaning shelf.new) }
 {
     match call {
         Request::Receive { place, count } => done(shelf.receive(place, count)),
@@ -54,7 +54,7 @@ pub fn serve<B: RuleBook, S: Shelf<Item = B::Item>>(
     calls: &[Request],
     answers: &mut Vec<Answer<B::Item>>,
 ) -> Result<(), AllocError>
-    ensures guarantee { Served (rules book.now) calls.now answers.old.items answers.new.items (meaning shelf.old) (meaning shelf.new) result }
+    ensures guarantee { Served (B.rules book.now) calls.now answers.old.items answers.new.items (S.meaning shelf.old) (S.meaning shelf.new) result }
     ensures decided { Decided B.Item }
 {
     answers.reserve(calls.len())?;

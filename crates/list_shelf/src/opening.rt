@@ -27,8 +27,8 @@ impl<'a, I: Copy> ListShelf<'a, I> {
         number: u32,
         slots: &[Slot<I>],
     ) -> Result<(), OpeningRefusal>
-        ensures says { OpeningSays (rules book.now).outside number (slot_items slots.now) result }
-        ensures ok { OnOk result (Openable (rules book.now).outside number (slot_items slots.now)) }
+        ensures says { OpeningSays (B.rules book.now).outside number (slot_items slots.now) result }
+        ensures ok { OnOk result (Openable (B.rules book.now).outside number (slot_items slots.now)) }
     {
         if number == 0 {
             return Err(OpeningRefusal::ShelfNumber);
@@ -50,9 +50,9 @@ impl<'a, I: Copy> ListShelf<'a, I> {
         number: u32,
         slots: &'a mut [Slot<I>],
     ) -> ListShelf<'a, I>
-        requires { Openable (rules _book.now).outside number (slot_items slots.old) }
+        requires { Openable (B.rules _book.now).outside number (slot_items slots.old) }
         ensures is { stock_of result.number result.slots.now ≡ record { number = number; places = map emptied (places_of slots.old) } }
-        ensures opened { Opened (rules _book.now) (stock_of result.number result.slots.now) }
+        ensures opened { Opened (B.rules _book.now) (stock_of result.number result.slots.now) }
     {
         clear(slots);
         ListShelf { number, slots }

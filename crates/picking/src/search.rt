@@ -8,7 +8,7 @@ use shelf::{Place, Shelf};
 
 // The size of an item that is on hand and passes.
 fn serving_size<B: RuleBook>(book: &B, place: &Place<B::Item>, case: &Case) -> Option<Size>
-    ensures { MatchOption result (PlaceServes (rules book.now) case.now place.now → ⊥) (λ size. PlaceServes (rules book.now) case.now place.now × SizeOf (rules book.now) place.now.item size) }
+    ensures { MatchOption result (PlaceServes (B.rules book.now) case.now place.now → ⊥) (λ size. PlaceServes (B.rules book.now) case.now place.now × SizeOf (B.rules book.now) place.now.item size) }
 {
     if place.on_hand == 0 {
         return None;
@@ -42,9 +42,9 @@ fn better<B: RuleBook, S: Shelf<Item = B::Item>>(
     place: usize,
     found: Option<Found>,
 ) -> Option<Found>
-    requires within { place < length (layout (meaning shelf.now)).items }
-    requires before { FoundBelow (rules book.now) (layout (meaning shelf.now)).items (on_hand (meaning shelf.now)) case.now place found }
-    ensures { FoundBelow (rules book.now) (layout (meaning shelf.now)).items (on_hand (meaning shelf.now)) case.now (place + 1) result }
+    requires within { place < length (layout (S.meaning shelf.now)).items }
+    requires before { FoundBelow (B.rules book.now) (layout (S.meaning shelf.now)).items (on_hand (S.meaning shelf.now)) case.now place found }
+    ensures { FoundBelow (B.rules book.now) (layout (S.meaning shelf.now)).items (on_hand (S.meaning shelf.now)) case.now (place + 1) result }
 {
     let Ok(here) = shelf.place(place) else {
         return found;
@@ -70,7 +70,7 @@ pub fn best<B: RuleBook, S: Shelf<Item = B::Item>>(
     shelf: &S,
     case: &Case,
 ) -> Option<usize>
-    ensures { BestSays (rules book.now) (layout (meaning shelf.now)).items (on_hand (meaning shelf.now)) case.now result }
+    ensures { BestSays (B.rules book.now) (layout (S.meaning shelf.now)).items (on_hand (S.meaning shelf.now)) case.now result }
 {
     let count = shelf.places().count;
     let mut found: Option<Found> = None;

@@ -14,7 +14,7 @@ pub fn take_best<B: RuleBook, S: Shelf<Item = B::Item>>(
     shelf: &mut S,
     case: &Case,
 ) -> Result<Taken, Refusal>
-    ensures { Step (meaning shelf.old) (picks (rules book.now) case.now) (picked_at result) (meaning shelf.new) }
+    ensures { Step (S.meaning shelf.old) (picks (B.rules book.now) case.now) (picked_at result) (S.meaning shelf.new) }
 {
     if !book.loads_within(case) {
         return Err(Refusal::Loads);

@@ -65,8 +65,8 @@ fn is_pass(answer: Result<Verdict, Refusal>) -> bool
 // Whether an item passes under a case, by any book: both lie within the limits, and every article holds. The verdict then has the number 0, and
 // in no other case.
 pub fn item_passes<B: RuleBook>(book: &B, item: &B::Item, case: &Case) -> bool
-    ensures is { result ≡ passes (rules book.now) item.now case.now }
-    ensures number { result ≡ numbered_0 (verdict_of (rules book.now) item.now case.now) }
+    ensures is { result ≡ passes (B.rules book.now) item.now case.now }
+    ensures number { result ≡ numbered_0 (verdict_of (B.rules book.now) item.now case.now) }
 {
     is_pass(book.verdict(item, case))
 }

@@ -19,7 +19,7 @@ fn calls_text<I: AsItem, B: RuleBook<Item = I>, S: Shelf<Item = I>>(
     shelf: &mut S,
     calls: &[Request],
 ) -> Result<String, AllocError>
-    ensures { IfOk result (λ text. CallsSay (rules book.now) I.AsItem.written (meaning shelf.old) calls.now (string_bytes text)) }
+    ensures { IfOk result (λ text. CallsSay (B.rules book.now) I.AsItem.written (S.meaning shelf.old) calls.now (string_bytes text)) }
 {
     let opened = OpenedText(shelf.places());
     let mut text = format!(in heap; "{opened}\n")?;
@@ -44,7 +44,7 @@ fn slots_text<I: AsItem, B: RuleBook<Item = I>>(
     slots: &mut [Slot<I>],
     calls: &[Request],
 ) -> Result<String, AllocError>
-    ensures { IfOk result (λ text. ListSays (rules book.now) I.AsItem.written number (slot_items slots.old) calls.now (string_bytes text)) }
+    ensures { IfOk result (λ text. ListSays (B.rules book.now) I.AsItem.written number (slot_items slots.old) calls.now (string_bytes text)) }
 {
     if let Err(why) = ListShelf::check(book, number, slots) {
         return refused_text(heap, why);
@@ -71,7 +71,7 @@ pub(crate) fn list_text<I: AsItem, B: RuleBook<Item = I>>(
     items: &[I],
     calls: &[Request],
 ) -> Result<String, AllocError>
-    ensures { IfOk result (λ text. ListSays (rules book.now) I.AsItem.written number items.now calls.now (string_bytes text)) }
+    ensures { IfOk result (λ text. ListSays (B.rules book.now) I.AsItem.written number items.now calls.now (string_bytes text)) }
 {
     let mut slots = slots_of(heap, items)?;
     slots_text(heap, book, number, slots.as_mut_slice(), calls)

@@ -15,7 +15,7 @@ pub fn pick_and_order<B: RuleBook, S: Shelf<Item = B::Item>>(
     shelf: &mut S,
     case: &Case,
 ) -> Result<usize, Refusal>
-    ensures { Ordered (rules book.now) case.now (meaning shelf.old) result (meaning shelf.new) }
+    ensures { Ordered (B.rules book.now) case.now (S.meaning shelf.old) result (S.meaning shelf.new) }
 {
     let slip = pick(book, shelf, case)?;
     let from = slip.place();
@@ -31,7 +31,7 @@ pub fn pick_and_return<B: RuleBook, S: Shelf<Item = B::Item>>(
     shelf: &mut S,
     case: &Case,
 ) -> Result<usize, Refusal>
-    ensures { Borrowed (rules book.now) case.now (meaning shelf.old) result (meaning shelf.new) }
+    ensures { Borrowed (B.rules book.now) case.now (S.meaning shelf.old) result (S.meaning shelf.new) }
 {
     let slip = pick(book, shelf, case)?;
     let place = slip.place();
@@ -47,7 +47,7 @@ pub fn pick_then_return<B: RuleBook, S: Shelf<Item = B::Item>>(
     shelf: &mut S,
     case: &Case,
 ) -> Result<(), Unended>
-    ensures { Returned (rules book.now) case.now (meaning shelf.old) result (meaning shelf.new) }
+    ensures { Returned (B.rules book.now) case.now (S.meaning shelf.old) result (S.meaning shelf.new) }
 {
     match pick(book, shelf, case) {
         Ok(slip) => match slip.give_back(shelf) {
@@ -64,7 +64,7 @@ pub fn pick_twice<B: RuleBook, S: Shelf<Item = B::Item>>(
     shelf: &mut S,
     case: &Case,
 ) -> (Result<Slip, Refusal>, Result<Slip, Refusal>)
-    ensures { TwoPicks (rules book.now) case.now (meaning shelf.old) result.0 result.1 (meaning shelf.new) }
+    ensures { TwoPicks (B.rules book.now) case.now (S.meaning shelf.old) result.0 result.1 (S.meaning shelf.new) }
 {
     let first = pick(book, shelf, case);
     let second = pick(book, shelf, case);
@@ -80,7 +80,7 @@ pub fn receive_then_pick<B: RuleBook, S: Shelf<Item = B::Item>>(
     count: u32,
     case: &Case,
 ) -> (Result<(), Refusal>, Result<Slip, Refusal>)
-    ensures { GuaranteedTogether (meaning shelf.old) (receives place count) (done result.0) (picks (rules book.now) case.now) (picked result.1) (meaning shelf.new) }
+    ensures { GuaranteedTogether (S.meaning shelf.old) (receives place count) (done result.0) (picks (B.rules book.now) case.now) (picked result.1) (S.meaning shelf.new) }
 {
     let received = shelf.receive(place, count);
     let picked = pick(book, shelf, case);

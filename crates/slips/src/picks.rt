@@ -15,7 +15,7 @@ pub fn pick<B: RuleBook, S: Shelf<Item = B::Item>>(
     shelf: &mut S,
     case: &Case,
 ) -> Result<Slip, Refusal>
-    ensures { Step (meaning shelf.old) (picks (rules book.now) case.now) (picked result) (meaning shelf.new) }
+    ensures { Step (S.meaning shelf.old) (picks (B.rules book.now) case.now) (picked result) (S.meaning shelf.new) }
 {
     let taken = take_best(book, shelf, case)?;
     Ok(Slip {
@@ -39,7 +39,7 @@ impl Slip {
 
     // The bearing goes to the seat. A refused order hands the slip back.
     pub fn order<S: Shelf>(self, shelf: &mut S) -> Result<(), HandedBack>
-        ensures step { Step (meaning shelf.old) (orders self.number self.place) (ended result) (meaning shelf.new) }
+        ensures step { Step (S.meaning shelf.old) (orders self.number self.place) (ended result) (S.meaning shelf.new) }
         ensures back { BackAs self result }
     {
         match shelf.order(self.number, self.place) {
@@ -53,7 +53,7 @@ impl Slip {
 
     // The bearing comes back to its place. A refused return hands the slip back.
     pub fn give_back<S: Shelf>(self, shelf: &mut S) -> Result<(), HandedBack>
-        ensures step { Step (meaning shelf.old) (returns self.number self.place) (ended result) (meaning shelf.new) }
+        ensures step { Step (S.meaning shelf.old) (returns self.number self.place) (ended result) (S.meaning shelf.new) }
         ensures back { BackAs self result }
     {
         match shelf.give_back(self.number, self.place) {

@@ -3,18 +3,18 @@ use Rattle.rulebook.specs.Cases.{load}
 use Rattle.buckling.proofs.Wholes.{compares}
 use Rattle.buckling.proofs.article.buckling_holds.Goals as goal
 
-pub overflow-mul-result : goal.overflow-mul-result
-overflow-mul-result c =
+pub overflow_mul-result : goal.overflow_mul-result
+overflow_mul-result c =
     let load_high : c.load.result ≤ 2000000 = omega (arith, c.load.ensures, c.args.admitted.now.load) in
     omega (arith, mul-le-mul (mul-le-mul load_high c.args.admitted.now.area_small.1.1) c.terms-terms.ensures.first_high)
 
-pub overflow-mul-result-4 : goal.overflow-mul-result-4
-overflow-mul-result-4 c =
+pub overflow_mul-result-4 : goal.overflow_mul-result-4
+overflow_mul-result-4 c =
     let load_high : c.load.result ≤ 2000000 = omega (arith, c.load.ensures, c.args.admitted.now.load) in
     omega (arith, mul-le-mul (mul-le-mul load_high c.args.admitted.now.area_small.1.1) c.terms-terms.ensures.second_high)
 
-pub overflow-add-result : goal.overflow-add-result
-overflow-add-result c =
+pub overflow_add-result : goal.overflow_add-result
+overflow_add-result c =
     let a = c.args.admitted.now in
     let load_high : c.load.result ≤ 2000000 = omega (arith, c.load.ensures, a.load) in
     omega (

@@ -10,6 +10,6 @@ returns c =
     record {
       fits = fits;
       next = next;
-      low-bound = root_low c.args.lesser c.args.greater c.isqrt.result next;
-      high-bound = root_high c.args.lesser c.args.greater c.isqrt.result pos c.requires.ordered fits;
+      low_bound = root_low c.args.lesser c.args.greater c.isqrt.result next;
+      high_bound = root_high c.args.lesser c.args.greater c.isqrt.result pos c.requires.ordered fits;
     }

@@ -2,13 +2,13 @@ use Rattle.std.proofs.Common.{arith}
 use Rattle.buckling.proofs.Quotients.{rectangle_parts, rectangle_small}
 use Rattle.buckling.proofs.article.rectangle_parts.Goals as goal
 
-pub overflow-mul-result-10 : goal.overflow-mul-result-10
-overflow-mul-result-10 c =
+pub overflow_mul-result-10 : goal.overflow_mul-result-10
+overflow_mul-result-10 c =
     let small = rectangle_small c.args.admitted.now c.args.length c.args.width c.requires in
     simp (c.min-lesser.ensures, c.max-greater.ensures) (omega (arith, small.second_high))
 
-pub overflow-mul-result-11 : goal.overflow-mul-result-11
-overflow-mul-result-11 c =
+pub overflow_mul-result-11 : goal.overflow_mul-result-11
+overflow_mul-result-11 c =
     let small = rectangle_small c.args.admitted.now c.args.length c.args.width c.requires in
     simp (c.min-lesser.ensures, c.max-greater.ensures) (omega (arith, small.second_high))
 

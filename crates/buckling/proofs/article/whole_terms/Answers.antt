@@ -6,11 +6,11 @@ use Rattle.buckling.proofs.Exact.{proper_terms}
 use Rattle.buckling.specs.Cleared.{whole_terms}
 use Rattle.buckling.proofs.article.whole_terms.Goals as goal
 
-pub returns-in-err-admitted : goal.returns-in-err-admitted
-returns-in-err-admitted c =
+pub returns-in_err-admitted : goal.returns-in_err-admitted
+returns-in_err-admitted c =
     let exit = err_from_is_err_and c.from-residual.result c.from-residual.ensures.1 in
     record {
-      is = rw (exit.1, exit.2) (sym (ap (λ o. answered o (whole_terms c.args.bearing.now c.args.case.now)) c.in-err-admitted.ensures));
+      is = rw (exit.1, exit.2) (sym (ap (λ o. answered o (whole_terms c.args.bearing.now c.args.case.now)) c.in_err-admitted.ensures));
       rounded = whole_numbers c.args.bearing.now c.args.case.now;
       proper = proper_terms c.args.bearing.now c.args.case.now;
     }

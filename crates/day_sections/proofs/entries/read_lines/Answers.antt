@@ -16,17 +16,17 @@ pub loop-rest-smaller : goal.loop-rest-smaller
 loop-rest-smaller c =
     let rest = c.loop-rest.rest.now in
     let some = some_left rest c.loop-rest-test.ensures in
-    cut_shorter rest _ some c.first-line.ensures.rest
+    cut_shorter rest _ some c.first_line.ensures.rest
 
 pub loop-rest-preserved : goal.loop-rest-preserved
 loop-rest-preserved c =
     let rest = c.loop-rest.rest.now in
-    let line = c.first-line.result.0.now in
-    let after = c.first-line.result.1.now in
+    let line = c.first_line.result.0.now in
+    let after = c.first_line.result.1.now in
     let some = some_left rest c.loop-rest-test.ensures in
-    let first = lines_cut rest line after some c.first-line.ensures.line c.first-line.ensures.rest in
-    read_more (vec_items c.loop-rest.lines) (vec_items c.push.new.self) (map entry_of (lines_of c.args.input.now)) c.read-entry.result line
-    (lines_of rest) (lines_of after) c.loop-rest.invariant c.in-ok-push.ensures.items c.read-entry.ensures first
+    let first = lines_cut rest line after some c.first_line.ensures.line c.first_line.ensures.rest in
+    read_more (vec_items c.loop-rest.lines) (vec_items c.push.new.self) (map entry_of (lines_of c.args.input.now)) c.read_entry.result line
+    (lines_of rest) (lines_of after) c.loop-rest.invariant c.in_ok-push.ensures.items c.read_entry.ensures first
 
 pub returns : goal.returns
 returns c =

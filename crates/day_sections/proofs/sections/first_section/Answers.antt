@@ -9,10 +9,10 @@ use Rattle.day_sections.specs.Sections.{goes_on, section_length}
 pub returns : goal.returns
 returns c =
     let lines = c.args.lines.now in
-    let some = some_left lines c.if-is-empty.ensures in
-    let behind : 1 + c.lines-before-opening-length.result ≡ section_length lines =
-    ap (λ n. 1 + n) (c.lines-before-opening-length.ensures.is ∙ ap (prefix_len goes_on) (take_rest lines 1)) ∙ sym (length_is lines some) in
+    let some = some_left lines c.if-is_empty.ensures in
+    let behind : 1 + c.lines_before_opening-length.result ≡ section_length lines =
+    ap (λ n. 1 + n) (c.lines_before_opening-length.ensures.is ∙ ap (prefix_len goes_on) (take_rest lines 1)) ∙ sym (length_is lines some) in
     record {
       section = ap (λ n. take n lines) (omega (arith, behind));
-      rest = take_rest lines (1 + c.lines-before-opening-length.result) ∙ ap (λ n. drop n lines) behind;
+      rest = take_rest lines (1 + c.lines_before_opening-length.result) ∙ ap (λ n. drop n lines) behind;
     }

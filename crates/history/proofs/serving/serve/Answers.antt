@@ -4,24 +4,24 @@ use Rattle.history.proofs.Alike.{decided}
 use Rattle.history.proofs.Runs.{goes_more, goes_all, guaranteed}
 use Rattle.history.proofs.serving.serve.Goals as goal
 
-pub returns-in-err-reserve : goal.returns-in-err-reserve
-returns-in-err-reserve g c =
+pub returns-in_err-reserve : goal.returns-in_err-reserve
+returns-in_err-reserve g c =
     let p = err_from_is_err_and c.from-residual.result c.from-residual.ensures.1 in
     rw p.1 (record { guarantee = (c.reserve.ensures.items, refl); decided = decided g.row.B-Item.Denot })
 
 pub loop-call-init : goal.loop-call-init
 loop-call-init g c =
-    let room = c.in-ok-reserve.ensures.ok in
+    let room = c.in_ok-reserve.ensures.ok in
     (omega (arith, room), ([], sym (append-nil (vec_items c.reserve.new.self)), refl, refl))
 
 pub loop-call-preserved : goal.loop-call-preserved
 loop-call-preserved g c =
     let new = c.loop-call.invariant.1.0 in
     let items = vec_items c.reserve.new.self in (
-      omega (arith, c.loop-call.invariant.0, c.push-reserved.ensures.len, c.push-reserved.ensures.capacity),
+      omega (arith, c.loop-call.invariant.0, c.push_reserved.ensures.len, c.push_reserved.ensures.capacity),
       (
         new ++ (c.answer.result ∷ []),
-        c.push-reserved.ensures.items ∙ ap (λ xs. xs ++ (c.answer.result ∷ [])) c.loop-call.invariant.1.1 ∙ append_assoc items new (c.answer.result ∷ []),
+        c.push_reserved.ensures.items ∙ ap (λ xs. xs ++ (c.answer.result ∷ [])) c.loop-call.invariant.1.1 ∙ append_assoc items new (c.answer.result ∷ []),
         length-append new (c.answer.result ∷ []) ∙ ap (λ n. n + 1) c.loop-call.invariant.1.2,
         goes_more _ _ _ _ _ _ _ _ _ c.loop-call-test.true c.loop-call.invariant.1.2 c.loop-call.invariant.1.3 c.answer.ensures,
       ),

@@ -7,6 +7,6 @@ use Rattle.judge_lines.proofs.heads.is.Goals as goal
 pub returns : goal.returns
 returns c =
     let word = c.args.word.now in
-    let bytes = c.as-bytes.result.now in
+    let bytes = c.as_bytes.result.now in
     same_from_decides c.eq.result (bytes_eq word bytes) (slice_eq-Decides Decides-eqb word bytes _ c.eq.ensures) (bytes_eq-Decides word bytes)
-    ∙ ap (bytes_eq word) c.as-bytes.ensures.value
+    ∙ ap (bytes_eq word) c.as_bytes.ensures.value

@@ -7,13 +7,13 @@ use Rattle.judge_lines.proofs.words.run_in_front.Goals as goal
 pub loop-i-preserved : goal.loop-i-preserved
 loop-i-preserved c =
     let byte = get_or c.args.bytes.now c.loop-i.i 0 in
-    let so = goes_on c.args.blanks byte c.is-blank.result c.is-blank.ensures c.if-is-blank-blanks.false in
+    let so = goes_on c.args.blanks byte c.is_blank.result c.is_blank.ensures c.if-is_blank-blanks.false in
     omega (arith, prefix_len-drop_yes (in_run c.args.blanks) c.args.bytes.now c.loop-i.i 0 c.loop-i-test.true so)
 
-pub returns-then-is-blank-blanks : goal.returns-then-is-blank-blanks
-returns-then-is-blank-blanks c =
+pub returns-then-is_blank-blanks : goal.returns-then-is_blank-blanks
+returns-then-is_blank-blanks c =
     let byte = get_or c.args.bytes.now c.loop-i.i 0 in
-    let so = breaks_off c.args.blanks byte c.is-blank.result c.is-blank.ensures c.if-is-blank-blanks.true in
+    let so = breaks_off c.args.blanks byte c.is_blank.result c.is_blank.ensures c.if-is_blank-blanks.true in
     record {
       is = omega (arith, prefix_len-drop_no (in_run c.args.blanks) c.args.bytes.now c.loop-i.i 0 c.loop-i-test.true so);
       within = search rules;

@@ -8,13 +8,13 @@ use Rattle.judging.specs.declared.answer.Answer.TheVariants as answer
 use Rattle.judging.proofs.Judged.{both_answered, one_refused}
 use Rattle.judging.proofs.answering.judge_pad.Goals as goal
 
-pub returns-in-err-articles : goal.returns-in-err-articles
-returns-in-err-articles c =
+pub returns-in_err-articles : goal.returns-in_err-articles
+returns-in_err-articles c =
     let pad = c.args.pad.now in
     let case = c.args.case.now in
     let articles = pad_articles pad case in
     one_refused (refusal (pad_outside pad) (loads_within case) (rest_within case)) (verdict_by (first_failing articles)) _ articles _ _ _
-    c.in-ok-verdict.ensures c.in-err-articles.ensures.is
+    c.in_ok-verdict.ensures c.in_err-articles.ensures.is
 
 pub returns : goal.returns
 returns c =
@@ -22,4 +22,4 @@ returns c =
     let case = c.args.case.now in
     let articles = pad_articles pad case in
     both_answered answer.Pad (refusal (pad_outside pad) (loads_within case) (rest_within case)) (verdict_by (first_failing articles)) _ articles _
-    c.in-ok-verdict.ensures c.in-ok-articles.ensures.is
+    c.in_ok-verdict.ensures c.in_ok-articles.ensures.is

@@ -9,19 +9,19 @@ pub loop-rest-smaller : goal.loop-rest-smaller
 loop-rest-smaller c =
     let rest = c.loop-rest.rest.now in
     let some = some_left rest c.loop-rest-test.ensures in
-    cut_shorter rest _ some c.first-line.ensures.rest
+    cut_shorter rest _ some c.first_line.ensures.rest
 
 pub loop-rest-preserved : goal.loop-rest-preserved
 loop-rest-preserved c =
     let rest = c.loop-rest.rest.now in
-    let line = c.first-line.result.0.now in
-    let after = c.first-line.result.1.now in
+    let line = c.first_line.result.0.now in
+    let after = c.first_line.result.1.now in
     let some = some_left rest c.loop-rest-test.ensures in
-    let first = lines_cut rest line after some c.first-line.ensures.line c.first-line.ensures.rest in
-    let said : c.as-str.result.now ≡ answer_text c.answer-to-answer.result ++ codes "\n" = c.as-str.ensures.value ∙ c.in-ok-answered.ensures.ok in
-    answered_more line_text (string_bytes c.loop-rest.text) c.as-str.result.now (string_bytes c.push-str.new.self) (answers_text c.args.input.now) line
-    (lines_of rest) (lines_of after) c.loop-rest.invariant first c.in-ok-push-str.ensures.bytes
-    (said ∙ ap (λ a. answer_text a ++ codes "\n") c.answer-to-answer.ensures)
+    let first = lines_cut rest line after some c.first_line.ensures.line c.first_line.ensures.rest in
+    let said : c.as_str.result.now ≡ answer_text c.answer_to-answer.result ++ codes "\n" = c.as_str.ensures.value ∙ c.in_ok-answered.ensures.ok in
+    answered_more line_text (string_bytes c.loop-rest.text) c.as_str.result.now (string_bytes c.push_str.new.self) (answers_text c.args.input.now) line
+    (lines_of rest) (lines_of after) c.loop-rest.invariant first c.in_ok-push_str.ensures.bytes
+    (said ∙ ap (λ a. answer_text a ++ codes "\n") c.answer_to-answer.ensures)
 
 pub returns : goal.returns
 returns c =

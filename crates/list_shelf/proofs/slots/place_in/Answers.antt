@@ -9,4 +9,4 @@ pub returns-then-place-slots : goal.returns-then-place-slots
 returns-then-place-slots g c = sym (ap place_seen (off_table c.args.slots.now c.args.place c.if-place-slots.true))
 
 pub returns : goal.returns
-returns g c = sym (ap place_seen (nth_map place_of c.args.slots.now c.args.place c.slot-at-slot.result c.slot-at-slot.ensures))
+returns g c = sym (ap place_seen (nth_map place_of c.args.slots.now c.args.place c.slot_at-slot.result c.slot_at-slot.ensures))

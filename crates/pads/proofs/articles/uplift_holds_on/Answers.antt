@@ -11,17 +11,17 @@ turned a side angle side_high angle_high =
 pressed : (a : AdmittedPad) → a.pad.thickness * a.pad.thickness * (load a.case * a.form.shape_area.bottom) ≤ 199950336000000
 pressed a = omega (arith, mul-le-mul (mul-le-mul a.thickness.1 a.thickness.1) (mul-le-mul a.load a.shape_area_small.1.1))
 
-pub overflow-mul-result : goal.overflow-mul-result
-overflow-mul-result c = omega (arith, turned c.args.admitted.now c.args.side c.args.angle c.requires.side_high c.requires.angle_high)
+pub overflow_mul-result : goal.overflow_mul-result
+overflow_mul-result c = omega (arith, turned c.args.admitted.now c.args.side c.args.angle c.requires.side_high c.requires.angle_high)
 
-pub overflow-mul-result-2 : goal.overflow-mul-result-2
-overflow-mul-result-2 c = omega (arith, turned c.args.admitted.now c.args.side c.args.angle c.requires.side_high c.requires.angle_high)
+pub overflow_mul-result-2 : goal.overflow_mul-result-2
+overflow_mul-result-2 c = omega (arith, turned c.args.admitted.now c.args.side c.args.angle c.requires.side_high c.requires.angle_high)
 
-pub overflow-mul-result-4 : goal.overflow-mul-result-4
-overflow-mul-result-4 c = simp c.load.ensures (omega (arith, pressed c.args.admitted.now))
+pub overflow_mul-result-4 : goal.overflow_mul-result-4
+overflow_mul-result-4 c = simp c.load.ensures (omega (arith, pressed c.args.admitted.now))
 
-pub overflow-mul-result-5 : goal.overflow-mul-result-5
-overflow-mul-result-5 c = simp c.load.ensures (omega (arith, pressed c.args.admitted.now))
+pub overflow_mul-result-5 : goal.overflow_mul-result-5
+overflow_mul-result-5 c = simp c.load.ensures (omega (arith, pressed c.args.admitted.now))
 
 pub returns : goal.returns
 returns c = simp c.load.ensures (uplift_held c.args.admitted.now c.args.side c.args.angle)

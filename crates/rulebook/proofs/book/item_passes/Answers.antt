@@ -8,7 +8,7 @@ returns g c =
     let rules = g.B.RuleBook.rules c.args.book.now in
     let item = c.args.item.now in
     let case = c.args.case.now in
-    let answer = c.is-pass.ensures ∙ ap passing c.verdict.ensures in
+    let answer = c.is_pass.ensures ∙ ap passing c.verdict.ensures in
     record {
       is = answer ∙ passes_so (rules.outside item) (rules.loads case) (rules.rest case) (rules.articles item case);
       number = answer ∙ numbered_so (rules.outside item) (rules.loads case) (rules.rest case) (rules.articles item case);

@@ -3,5 +3,5 @@ use Rattle.section14.proofs.articles.compression_holds.Goals as goal
 
 pub returns : goal.returns
 returns c =
-    simp (c.stress-holds.ensures, c.load-holds.ensures, c.load-holds-2.ensures, c.load.ensures, c.compression-limits-most.ensures)
+    simp (c.stress_holds.ensures, c.load_holds.ensures, c.load_holds-2.ensures, c.load.ensures, c.compression_limits-most.ensures)
     (compression_held c.args.admitted.now.bearing c.args.admitted.now.case)

@@ -4,10 +4,10 @@ use Rattle.section14.proofs.articles.uplift_holds.Goals as goal
 pub returns-in-Rectangle : goal.returns-in-Rectangle
 returns-in-Rectangle c =
     let a = c.args.admitted.now in
-    simp (c.uplift-holds-on.ensures, c.uplift-holds-on-in-Rectangle.ensures)
+    simp (c.uplift_holds_on.ensures, c.uplift_holds_on-in-Rectangle.ensures)
     (uplift_rectangle a.bearing a.case c.in-Rectangle.length c.in-Rectangle.width c.in-Rectangle.is)
 
 pub returns-in-Circle : goal.returns-in-Circle
 returns-in-Circle c =
     let a = c.args.admitted.now in
-    simp (c.uplift-holds-on-in-Circle.ensures, c.max.ensures) (uplift_circle a.bearing a.case c.in-Circle.diameter c.in-Circle.is)
+    simp (c.uplift_holds_on-in-Circle.ensures, c.max.ensures) (uplift_circle a.bearing a.case c.in-Circle.diameter c.in-Circle.is)

@@ -3,5 +3,5 @@ use Rattle.section14.proofs.book.articles_of.Goals as goal
 
 pub returns : goal.returns
 returns c =
-    simp (c.compression-holds.ensures, c.shear-holds.ensures, c.uplift-holds.ensures, c.rotation-holds.ensures, c.buckling-holds.ensures, c.steel-holds.ensures)
+    simp (c.compression_holds.ensures, c.shear_holds.ensures, c.uplift_holds.ensures, c.rotation_holds.ensures, c.buckling_holds.ensures, c.steel_holds.ensures)
     (listed c.args.admitted.now.bearing c.args.admitted.now.case)

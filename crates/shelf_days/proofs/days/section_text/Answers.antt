@@ -8,15 +8,15 @@ use Rattle.shelf_days.proofs.days.section_text.Goals as goal
 pub returns-in-Ok : goal.returns-in-Ok
 returns-in-Ok c =
     let section = c.args.section.now in
-    let some = some_left section c.if-is-empty.ensures in
-    IfOk-weaker c.opened-text.result _ _
+    let some = some_left section c.if-is_empty.ensures in
+    IfOk-weaker c.opened_text.result _ _
     (λ text says. section_says c.args.first section _ _ _ (string_bytes text) some c.in-Ok.ensures (take_rest section 1) says)
-    c.opened-text.ensures
+    c.opened_text.ensures
 
 pub returns-in-Err : goal.returns-in-Err
 returns-in-Err c =
     let section = c.args.section.now in
-    let some = some_left section c.if-is-empty.ensures in
-    IfOk-weaker c.fault-text.result _ _
+    let some = some_left section c.if-is_empty.ensures in
+    IfOk-weaker c.fault_text.result _ _
     (λ text says. section_says c.args.first section (drop 1 section) _ _ (string_bytes text) some c.in-Err.ensures refl says)
-    c.fault-text.ensures
+    c.fault_text.ensures

@@ -8,20 +8,20 @@ pub loop-rest-smaller : goal.loop-rest-smaller
 loop-rest-smaller c =
     let rest = c.loop-rest.rest.now in
     let some = some_left rest c.loop-rest-test.ensures in
-    section_shorter rest _ some c.first-section.ensures.rest
+    section_shorter rest _ some c.first_section.ensures.rest
 
 pub loop-rest-preserved : goal.loop-rest-preserved
 loop-rest-preserved c =
     let rest = c.loop-rest.rest.now in
     let lines = c.args.lines.now in
-    let section = c.first-section.result.0.now in
-    let behind = c.first-section.result.1.now in
+    let section = c.first_section.result.0.now in
+    let behind = c.first_section.result.1.now in
     let some = some_left rest c.loop-rest-test.ensures in
-    let shorter = section_shorter rest behind some c.first-section.ensures.rest in (
+    let shorter = section_shorter rest behind some c.first_section.ensures.rest in (
       omega (arith, shorter, c.loop-rest.invariant.0),
-      onward_more (length lines) rest section behind lines (string_bytes c.loop-rest.text) (string_bytes c.in-ok-answered.answered) (string_bytes c.push-str.new.self)
-          some c.loop-rest.invariant.0 c.first-section.ensures.section c.first-section.ensures.rest c.in-ok-answered.ensures
-          (c.in-ok-push-str.ensures.bytes ∙ ap (λ (xs : List ℕ). string_bytes c.loop-rest.text ++ xs) c.as-str.ensures.value) c.loop-rest.invariant.1,
+      onward_more (length lines) rest section behind lines (string_bytes c.loop-rest.text) (string_bytes c.in_ok-answered.answered) (string_bytes c.push_str.new.self)
+          some c.loop-rest.invariant.0 c.first_section.ensures.section c.first_section.ensures.rest c.in_ok-answered.ensures
+          (c.in_ok-push_str.ensures.bytes ∙ ap (λ (xs : List ℕ). string_bytes c.loop-rest.text ++ xs) c.as_str.ensures.value) c.loop-rest.invariant.1,
     )
 
 pub returns : goal.returns

@@ -10,7 +10,7 @@ loop-item-preserved g c =
     let i = c.loop-item.item-index in
     let more : take i items ++ (c.item-item.result ∷ []) ≡ take (i + 1) items =
     ap (λ (x : g.row.I.Denot). take i items ++ (x ∷ [])) c.item-item.is ∙ sym (take_more items i c.item-item.result c.loop-item-test.true) in
-    ap slot_items c.in-ok-push.ensures.items ∙ map_push (λ (x : Slot g.row.I.Denot). x.item) (vec_items c.loop-item.slots) c.new.result
+    ap slot_items c.in_ok-push.ensures.items ∙ map_push (λ (x : Slot g.row.I.Denot). x.item) (vec_items c.loop-item.slots) c.new.result
     ∙ ap₂ (λ (xs : List g.row.I.Denot) (x : g.row.I.Denot). xs ++ (x ∷ [])) c.loop-item.invariant c.new.ensures.0 ∙ more
 
 pub returns : goal.returns

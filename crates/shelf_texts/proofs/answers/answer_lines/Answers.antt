@@ -6,10 +6,10 @@ use Rattle.shelf_texts.specs.Texts.{answer_text, answer_line}
 
 pub loop-answer-preserved : goal.loop-answer-preserved
 loop-answer-preserved g c =
-    let said : c.as-str.result.now ≡ answer_text c.of-item.result ++ codes "\n" = c.as-str.ensures.value ∙ c.in-ok-line.ensures.ok in
+    let said : c.as_str.result.now ≡ answer_text c.of_item.result ++ codes "\n" = c.as_str.ensures.value ∙ c.in_ok-line.ensures.ok in
     lines_more (answer_line g.I.AsItem.written) c.args.answers.now c.loop-answer.answer-index c.answer-item.result
-    (string_bytes c.loop-answer.text) c.as-str.result.now (string_bytes c.push-str.new.self) c.loop-answer-test.true c.answer-item.is c.loop-answer.invariant
-    (said ∙ ap (λ a. answer_text a ++ codes "\n") c.of-item.ensures) c.in-ok-push-str.ensures.bytes
+    (string_bytes c.loop-answer.text) c.as_str.result.now (string_bytes c.push_str.new.self) c.loop-answer-test.true c.answer-item.is c.loop-answer.invariant
+    (said ∙ ap (λ a. answer_text a ++ codes "\n") c.of_item.ensures) c.in_ok-push_str.ensures.bytes
 
 pub returns : goal.returns
 returns g c = c.loop-answer.invariant ∙ ap (flat_map (answer_line g.I.AsItem.written)) (take_all c.loop-answer.answer-index c.args.answers.now c.loop-answer-test.false)

@@ -4,17 +4,17 @@ use Rattle.bearings.proofs.Refusing.{admitted, refused}
 use Rattle.bearings.proofs.Inequalities.{pad_within}
 use Rattle.bearings.proofs.admitted.AdmittedPad.new.Goals as goal
 
-pub returns-in-err-admit : goal.returns-in-err-admit
-returns-in-err-admit c =
+pub returns-in_err-admit : goal.returns-in_err-admit
+returns-in_err-admit c =
     let exit = err_from_is_err_and c.from-residual.result c.from-residual.ensures.1 in
-    rw (exit.1, exit.2) (rw c.first-outside.ensures at (refused _ _ c.in-err-admit.ensures))
+    rw (exit.1, exit.2) (rw c.first_outside.ensures at (refused _ _ c.in_err-admit.ensures))
 
 pub invariant-of-result : goal.invariant-of-result
 invariant-of-result c =
-    let so = admitted c.first-outside.result c.args.case.now c.in-ok-admit.ensures in
-    let item = pad_within c.args.pad.now (sym c.first-outside.ensures ∙ so.item) in
+    let so = admitted c.first_outside.result c.args.case.now c.in_ok-admit.ensures in
+    let item = pad_within c.args.pad.now (sym c.first_outside.ensures ∙ so.item) in
     let form = c.of.ensures in (
-      rw c.first-outside.ensures at so.item_within,
+      rw c.first_outside.ensures at so.item_within,
       (
         so.loads,
         (

@@ -5,13 +5,13 @@ use Rattle.judge_lines.proofs.words.Words.next.Goals as goal
 pub returns-then-end-eq0 : goal.returns-then-end-eq0
 returns-then-end-eq0 c =
     record {
-      word = next_none c.args.self.now.rest.now c.run-in-front.result c.run-in-front-end.result c.run-in-front.ensures.is c.run-in-front-end.ensures.is c.if-end-eq0.true;
+      word = next_none c.args.self.now.rest.now c.run_in_front.result c.run_in_front-end.result c.run_in_front.ensures.is c.run_in_front-end.ensures.is c.if-end-eq0.true;
       counted = search rules;
     }
 
 pub returns : goal.returns
 returns c =
     record {
-      word = next_some c.args.self.now.rest.now c.run-in-front.result c.run-in-front-end.result c.run-in-front.ensures.is c.run-in-front-end.ensures.is c.run-in-front-end.ensures.within (omega arith);
+      word = next_some c.args.self.now.rest.now c.run_in_front.result c.run_in_front-end.result c.run_in_front.ensures.is c.run_in_front-end.ensures.is c.run_in_front-end.ensures.within (omega arith);
       counted = search rules;
     }

@@ -21,15 +21,15 @@ right_count : {I : Type 0} (slots : List (Slot I)) → eqb (length slots) 0 ≡ 
 right_count slots some few (inl z) = eqb-false (length slots) 0 some (sym (counted slots) ∙ z)
 right_count slots some few (inr more) = let n = counted slots in omega arith
 
-pub returns-then-is-empty : goal.returns-then-is-empty
-returns-then-is-empty g c =
+pub returns-then-is_empty : goal.returns-then-is_empty
+returns-then-is_empty g c =
     let n = counted c.args.slots.now in
     record {
       says = inr (
         c.if-number-eq0.false,
         inl (
-          elim c.then-is-empty.either [
-            | inl e ↦ let z = eqb-true _ 0 (sym c.is-empty.ensures ∙ e) in inl (omega arith)
+          elim c.then-is_empty.either [
+            | inl e ↦ let z = eqb-true _ 0 (sym c.is_empty.ensures ∙ e) in inl (omega arith)
             | inr more ↦ inr (omega (arith, more.1))
           ],
           refl,
@@ -48,7 +48,7 @@ returns-in-Some g c =
       before = c.loop-place.invariant;
     } in
     record {
-      says = inr (c.if-number-eq0.false, inr (right_count slots (sym c.if-is-empty.ensures) c.if-slots-gt-MOST-ITEMS.false, inl (c.loop-place.place, c.in-Some.field, first, refl)));
+      says = inr (c.if-number-eq0.false, inr (right_count slots (sym c.if-is_empty.ensures) c.if-slots-gt-MOST_ITEMS.false, inl (c.loop-place.place, c.in-Some.field, first, refl)));
       ok = tt;
     }
 
@@ -58,7 +58,7 @@ loop-place-preserved g c =
     let outside = (g.B.RuleBook.rules c.args.book.now).outside in
     let here = stands slots c.loop-place.place c.index-slots-place.result c.loop-place-test.true c.index-slots-place.is in
     below_more (λ k. (i : g.row.I.Denot) → slice_get (slot_items slots) k ≡ Some i → outside i ≡ None) c.loop-place.place c.loop-place.invariant
-    (λ i e. subst (λ (x : g.row.I.Denot). outside x ≡ None) (some_is (sym here ∙ e)) (sym c.in-default.ensures))
+    (λ i e. subst (λ (x : g.row.I.Denot). outside x ≡ None) (some_is (sym here ∙ e)) (sym c.in_default.ensures))
 
 pub returns : goal.returns
 returns g c =
@@ -66,8 +66,8 @@ returns g c =
     let n = counted slots in
     let within : AllWithin (g.B.RuleBook.rules c.args.book.now).outside (slot_items slots) =
     λ k i e. let w = nth_within (slot_items slots) k i e in c.loop-place.invariant k (omega (arith, w, c.loop-place-test.false)) i e in
-    let some : length slots ≡ 0 → ⊥ = eqb-false (length slots) 0 (sym c.if-is-empty.ensures) in
+    let some : length slots ≡ 0 → ⊥ = eqb-false (length slots) 0 (sym c.if-is_empty.ensures) in
     record {
-      says = inr (c.if-number-eq0.false, inr (right_count slots (sym c.if-is-empty.ensures) c.if-slots-gt-MOST-ITEMS.false, inr (within, refl)));
-      ok = record { numbered = omega (arith, c.if-number-eq0.false); some = omega (arith, some); few = omega (arith, c.if-slots-gt-MOST-ITEMS.false); within = within };
+      says = inr (c.if-number-eq0.false, inr (right_count slots (sym c.if-is_empty.ensures) c.if-slots-gt-MOST_ITEMS.false, inr (within, refl)));
+      ok = record { numbered = omega (arith, c.if-number-eq0.false); some = omega (arith, some); few = omega (arith, c.if-slots-gt-MOST_ITEMS.false); within = within };
     }
