@@ -15,11 +15,11 @@ use Rattle.shelf.specs.declared.answer.Answer.TheVariants.{Picked, Shown}
 use Rattle.history.specs.Decided.{calls_of, Decided}
 use Rattle.history.specs.History.{Event}
 
-refused_alike : {I : Type 0} (a a' : Answer I) (why : Refusal) (ground rest rest' : Type 0) → (rest → rest' → a ≡ a') → Refuses a why ground rest → Refuses a' why ground rest' → a ≡ a'
-refused_alike a a' why ground rest rest' else (inl h) (inl h') = h.1 ∙ sym h'.1
-refused_alike a a' why ground rest rest' else (inl h) (inr h') = absurd (h'.0 h.0)
-refused_alike a a' why ground rest rest' else (inr h) (inl h') = absurd (h.0 h'.0)
-refused_alike a a' why ground rest rest' else (inr h) (inr h') = else h.1 h'.1
+refused_alike : {I : Type 0} (a a' : Answer I) (why : Refusal) (cause rest rest' : Type 0) → (rest → rest' → a ≡ a') → Refuses a why cause rest → Refuses a' why cause rest' → a ≡ a'
+refused_alike a a' why cause rest rest' else (inl h) (inl h') = h.1 ∙ sym h'.1
+refused_alike a a' why cause rest rest' else (inl h) (inr h') = absurd (h'.0 h.0)
+refused_alike a a' why cause rest rest' else (inr h) (inl h') = absurd (h.0 h'.0)
+refused_alike a a' why cause rest rest' else (inr h) (inr h') = else h.1 h'.1
 
 best_alike : {I : Type 0} (R : Rules I) (items : List I) (hand : ℕ → ℕ) (c : Case) (k k' : ℕ) → Best R items hand c k → Best R items hand c k' → k ≡ k'
 best_alike R items hand c k k' h h' = go (ℕ_discrete k k')

@@ -21,9 +21,9 @@ done = reply (λ _. Done)
 abbrev pub shown : {I : Type 0} → Result (Place I) Refusal → Answer I
 shown = reply Shown
 
--- one check of a call: on this ground it is refused so; else the rest says the answer
-abbrev pub Refuses : {I : Type 0} → Answer I → Refusal → (ground rest : Type 0) → Type 0
-Refuses answer why ground rest = (ground × (answer ≡ Refused why)) ⊎ ((ground → ⊥) × rest)
+-- one check of a call: for this cause it is refused so; else the rest says the answer
+abbrev pub Refuses : {I : Type 0} → Answer I → Refusal → (cause rest : Type 0) → Type 0
+Refuses answer why cause rest = (cause × (answer ≡ Refused why)) ⊎ ((cause → ⊥) × rest)
 
 -- the place k is off the shelf
 abbrev pub Off : {I : Type 0} → Layout I → ℕ → Type 0

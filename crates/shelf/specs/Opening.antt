@@ -28,9 +28,9 @@ pub record Openable {I : Type 0} (outside : Limits I) (number : ℕ) (items : Li
   pub few : length items ≤ 200
   pub within : AllWithin outside items
 
--- one check of an opening: on this ground it is refused so; else the rest says the result
-abbrev pub RefusesOpening : {T : Type 0} → Result T OpeningRefusal → OpeningRefusal → (ground rest : Type 0) → Type 0
-RefusesOpening r why ground rest = (ground × (r ≡ Err why)) ⊎ ((ground → ⊥) × rest)
+-- one check of an opening: for this cause it is refused so; else the rest says the result
+abbrev pub RefusesOpening : {T : Type 0} → Result T OpeningRefusal → OpeningRefusal → (cause rest : Type 0) → Type 0
+RefusesOpening r why cause rest = (cause × (r ≡ Err why)) ⊎ ((cause → ⊥) × rest)
 
 -- whether it may: the shelf number, then how many items there are, then each item
 abbrev pub OpeningSays : {I : Type 0} → Limits I → (number : ℕ) → List I → Result (Unit {0}) OpeningRefusal → Type 0

@@ -8,7 +8,7 @@ use Rattle.buckling.proofs.article.whole_terms.Goals as goal
 
 pub returns-in_err-admitted : goal.returns-in_err-admitted
 returns-in_err-admitted c =
-    let exit = err_from_is_err_and c.from-residual.result c.from-residual.ensures.1 in
+    let exit = err_from_is_err_and c.from_residual.result c.from_residual.ensures.1 in
     record {
       is = rw (exit.1, exit.2) (sym (ap (λ o. answered o (whole_terms c.args.bearing.now c.args.case.now)) c.in_err-admitted.ensures));
       rounded = whole_numbers c.args.bearing.now c.args.case.now;

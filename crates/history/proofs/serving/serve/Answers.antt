@@ -6,7 +6,7 @@ use Rattle.history.proofs.serving.serve.Goals as goal
 
 pub returns-in_err-reserve : goal.returns-in_err-reserve
 returns-in_err-reserve g c =
-    let p = err_from_is_err_and c.from-residual.result c.from-residual.ensures.1 in
+    let p = err_from_is_err_and c.from_residual.result c.from_residual.ensures.1 in
     rw p.1 (record { guarantee = (c.reserve.ensures.items, refl); decided = decided g.row.B-Item.Denot })
 
 pub loop-call-init : goal.loop-call-init

@@ -8,7 +8,7 @@ returns-then-place-slots g c = λ number. refused_off c.args.slots.now c.args.pl
 
 pub returns-in_err-counts : goal.returns-in_err-counts
 returns-in_err-counts g c =
-    let p = err_from_is_err_and c.from-residual.result c.from-residual.ensures.1 in
+    let p = err_from_is_err_and c.from_residual.result c.from_residual.ensures.1 in
     rw (p.1, p.2) (λ number. refused_counts c.args.slots.now c.args.place c.args.change number c.slot_at-slot.result c.slot_at-slot.ensures c.in_err-counts.field-0.0 c.in_err-counts.ensures)
 
 pub returns : goal.returns

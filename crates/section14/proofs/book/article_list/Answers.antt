@@ -7,7 +7,7 @@ use Rattle.section14.proofs.book.article_list.Goals as goal
 
 pub returns-in_err-admitted : goal.returns-in_err-admitted
 returns-in_err-admitted c =
-    let exit = err_from_is_err_and c.from-residual.result c.from-residual.ensures.1 in
+    let exit = err_from_is_err_and c.from_residual.result c.from_residual.ensures.1 in
     record {
       is = rw (exit.1, exit.2) (sym (ap (λ o. answered o (section14_articles c.args.bearing.now c.args.case.now)) c.in_err-admitted.ensures));
       proper = every_proper c.args.bearing.now c.args.case.now;

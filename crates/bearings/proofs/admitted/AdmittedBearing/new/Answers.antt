@@ -6,62 +6,30 @@ use Rattle.bearings.proofs.admitted.AdmittedBearing.new.Goals as goal
 
 pub returns-in_err-admit : goal.returns-in_err-admit
 returns-in_err-admit c =
-    let exit = err_from_is_err_and c.from-residual.result c.from-residual.ensures.1 in
+    let exit = err_from_is_err_and c.from_residual.result c.from_residual.ensures.1 in
     rw (exit.1, exit.2) (rw c.first_outside.ensures at (refused _ _ c.in_err-admit.ensures))
 
-pub invariant-of-result : goal.invariant-of-result
-invariant-of-result c =
+pub invariant_of-result : goal.invariant_of-result
+invariant_of-result c =
     let so = admitted c.first_outside.result c.args.case.now c.in_ok-admit.ensures in
     let item = bearing_within c.args.bearing.now (sym c.first_outside.ensures ∙ so.item) in
-    let form = c.of.ensures in (
-      rw c.first_outside.ensures at so.item_within,
-      (
-        so.loads,
-        (
-          so.rest,
-          (
-            item.lamination_so.layers,
-            (
-              item.lamination_so.thickness,
-              (
-                item.lamination_so.cover,
-                (
-                  item.lamination_so.laminate,
-                  (
-                    item.lamination_so.modulus,
-                    (
-                      item.lamination_so.strength,
-                      (
-                        so.demand.load_high,
-                        (
-                          so.demand.movement_high,
-                          (
-                            so.demand.rotations_high,
-                            (
-                              so.demand.marks_high,
-                              (
-                                form.is.0,
-                                (
-                                  form.small.0,
-                                  (
-                                    form.is.1,
-                                    (
-                                      form.small.1,
-                                      tt,
-                                    ),
-                                  ),
-                                ),
-                              ),
-                            ),
-                          ),
-                        ),
-                      ),
-                    ),
-                  ),
-                ),
-              ),
-            ),
-          ),
-        ),
-      ),
-    )
+    let form = c.of.ensures in
+    record {
+      item_within = rw c.first_outside.ensures at so.item_within;
+      loads_within = so.loads;
+      rest_within = so.rest;
+      layers = item.lamination_so.layers;
+      thickness = item.lamination_so.thickness;
+      cover = item.lamination_so.cover;
+      laminate = item.lamination_so.laminate;
+      modulus = item.lamination_so.modulus;
+      strength = item.lamination_so.strength;
+      load = so.demand.load_high;
+      movement = so.demand.movement_high;
+      rotations = so.demand.rotations_high;
+      marks = so.demand.marks_high;
+      area_is = form.is.0;
+      area_small = form.small.0;
+      shape_area_is = form.is.1;
+      shape_area_small = form.small.1;
+    }

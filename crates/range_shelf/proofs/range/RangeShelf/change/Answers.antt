@@ -12,7 +12,7 @@ returns-then-place-self c =
 pub returns-in_err-counts : goal.returns-in_err-counts
 returns-in_err-counts c =
     let s = c.args.self.now in
-    let p = err_from_is_err_and c.from-residual.result c.from-residual.ensures.1 in
+    let p = err_from_is_err_and c.from_residual.result c.from_residual.ensures.1 in
     let stored : c.args.place < length s.counts = search rules in
     rw (p.1, p.2) (refused_counts c.args.change c.args.place (range_stock s) _ (place_read s.bearing s.counts c.args.place c.index-self-place.result c.if-place-self.false stored) c.in_err-counts.field-0.0 c.in_err-counts.ensures)
 
