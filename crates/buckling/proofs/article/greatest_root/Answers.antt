@@ -6,7 +6,7 @@ pub returns : goal.returns
 returns c =
     let pos : 0 < c.args.greater = omega arith in
     let fits = (le-div_iff_mul-le pos).0 c.isqrt.ensures.square_le in
-    let next = (div-lt_iff_lt-mul pos).0 c.isqrt.ensures.next-square-gt in
+    let next = (div-lt_iff_lt-mul pos).0 c.isqrt.ensures.next_square_gt in
     record {
       fits = fits;
       next = next;
