@@ -1,5 +1,5 @@
 -- The inequalities that the limits give.
-use Rattle.std.proofs.Common.{◌≡◌, ◌*◌, ◌≤◌, Bool, true, leb, List, [], ◌∷◌, ◌++◌, None}
+use Rattle.std.proofs.Common.{◌≡◌, ◌*◌, ◌≤◌, Bool, true, leb, List, ◌∷◌, ◌++◌, None}
 use Rattle.std.proofs.lemmas.Bool.{and_parts, leb-true}
 use Rattle.rulebook.proofs.Passing.{between_ends, none_fails}
 use Rattle.rulebook.specs.Cases.{load, loads_within, rest_within}

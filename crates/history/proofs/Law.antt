@@ -1,5 +1,5 @@
 -- The account and the choice of every history.
-use Rattle.std.proofs.Common.{◌≡◌, ℕ, ◌+◌, true, List, [], ◌∷◌, ◌++◌, sym, refl, subst, inl, inr, arith}
+use Rattle.std.proofs.Common.{◌≡◌, ℕ, true, List, [], ◌∷◌, ◌++◌, sym, refl, subst, inl, inr, arith}
 use mathlib.Core.Path.{subst₃, fun_ext}
 use Rattle.std.proofs.lemmas.Bool.{both_ways}
 use Rattle.rulebook.specs.Books.{Rules}

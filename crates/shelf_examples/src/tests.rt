@@ -92,7 +92,7 @@ fn picks_bearings(rt: HostRuntime) -> Result<(), Fail> {
             out: 0,
         }),
     ];
-    assert_eq!(rt; answers.as_slice(), &expected);
+    assert_eq!(rt; answers.as_slice(), expected.as_slice());
     Ok(())
 }
 

@@ -1,5 +1,4 @@
 use Rattle.std.proofs.Common.{◌≤◌, ap, mul-le-mul, arith}
-use Rattle.rulebook.specs.Cases.{load}
 use Rattle.buckling.proofs.Wholes.{compares}
 use Rattle.buckling.proofs.article.buckling_holds.Goals as goal
 
