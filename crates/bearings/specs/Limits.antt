@@ -19,7 +19,7 @@ sides (Circle d) = side d ∷ []
 abbrev pub shear_modulus : ℕ → Bool
 shear_modulus g = between 80 g 180
 
--- n; h in sixteenths of an inch; c in sixteenths, with 10c ≤ 7h besides; s in sixty_fourths; G in psi; F in ksi
+-- n; h in sixteenths of an inch; c in sixteenths, with 10c ≤ 7h besides; s in sixty-fourths; G in psi; F in ksi
 abbrev pub lamination : Bearing → List Bool
 lamination b =
     between 1 b.layers 20

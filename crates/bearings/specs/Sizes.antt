@@ -12,11 +12,11 @@ use Rattle.bearings.specs.declared.pad.Pad.{Pad}
 abbrev pub rubber_sixteenths : Bearing → ℕ
 rubber_sixteenths b = b.layers * b.thickness + 2 * b.cover
 
--- sixty_fourths of an inch: n layers of h sixteenths, two covers of c sixteenths, n + 1 laminates of s sixty_fourths
+-- sixty-fourths of an inch: n layers of h sixteenths, two covers of c sixteenths, n + 1 laminates of s sixty-fourths
 abbrev pub bearing_height : Bearing → ℕ
 bearing_height b = 4 * rubber_sixteenths b + (b.layers + 1) * b.laminate
 
--- sixty_fourths of an inch
+-- sixty-fourths of an inch
 abbrev pub pad_height : Pad → ℕ
 pad_height p = 4 * p.thickness
 

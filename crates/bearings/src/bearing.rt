@@ -18,7 +18,7 @@ pub struct Bearing {
     pub thickness: u8,
     // thickness of each of the two covers, in sixteenths of an inch
     pub cover: u8,
-    // thickness of each steel laminate, in sixty_fourths of an inch
+    // thickness of each steel laminate, in sixty-fourths of an inch
     pub laminate: u8,
     // shear modulus of the rubber, in psi
     pub modulus: u8,

@@ -90,7 +90,7 @@ impl Bearing {
         self.layers as u32 * self.thickness as u32 + 2 * self.cover as u32
     }
 
-    // In sixty_fourths of an inch.
+    // In sixty-fourths of an inch.
     pub fn height(&self) -> u32
         ensures is { result ≡ bearing_height self.now }
         ensures inches { Height self.now result }
@@ -117,7 +117,7 @@ impl Pad {
         }
     }
 
-    // In sixty_fourths of an inch.
+    // In sixty-fourths of an inch.
     pub fn height(&self) -> u32
         ensures is { result ≡ pad_height self.now }
         ensures inches { PadHeight self.now result }

@@ -1,4 +1,4 @@
--- A book asked twice about the same item and case Refuses both times or neither time.
+-- A book asked twice about the same item and case refuses both times or neither time.
 use Rattle.std.proofs.Common.{◌≡◌, Bool, List, Some, None, Ok, Err, Option}
 use Rattle.rulebook.specs.Books.{answered}
 use Rattle.rulebook.specs.declared.refusal.Refusal.{Refusal}

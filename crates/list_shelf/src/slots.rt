@@ -28,7 +28,7 @@ pub(crate) fn place_in<I: Copy>(slots: &[Slot<I>], place: usize) -> Result<Place
     })
 }
 
-// Changes the counts of one slot, or Refuses and leaves all as they were.
+// Changes the counts of one slot, or refuses and leaves all as they were.
 pub(crate) fn change_slot<I: Copy>(
     slots: &mut [Slot<I>],
     place: usize,

@@ -38,7 +38,7 @@ compression p c = stress_within p c ∷ stress_within_GS p c ∷ []
 unfoldable pub shear : Pad → Case → List Comparison
 shear p c = whole 2 times hundredths c.movement at_most h p ∷ []
 
--- 3. Uplift: T ≥ 0.5GS(L/h)²θx and T ≥ 0.5GS(W/h)²θz; by a side in half inches and an angle in ten_thousandths of a radian
+-- 3. Uplift: T ≥ 0.5GS(L/h)²θx and T ≥ 0.5GS(W/h)²θz; by a side in half inches and an angle in ten-thousandths of a radian
 abbrev pub uplift_on : Pad → Case → (side angle : ℕ) → Comparison
 uplift_on p c side angle = 5 over 10 times GS p times squared (halves side per h p) times ten_thousandths angle at_most T p c
 

@@ -26,7 +26,7 @@ impl RangeShelf {
         })
     }
 
-    // Changes the counts of one place, or Refuses and leaves all as they were.
+    // Changes the counts of one place, or refuses and leaves all as they were.
     fn change(&mut self, place: usize, change: Change) -> Result<(), Refusal>
         ensures { Changed change place (range_stock self.old) result (range_stock self.new) }
     {

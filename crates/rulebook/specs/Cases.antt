@@ -10,7 +10,7 @@ load c = c.dead + c.live
 abbrev pub loads_within : Case → Bool
 loads_within c = nat_le (load c) 2000000
 
--- hundredths of an inch, ten_thousandths of a radian, marks
+-- hundredths of an inch, ten-thousandths of a radian, marks
 abbrev pub rest_within : Case → Bool
 rest_within c =
     between 0 c.movement 2000

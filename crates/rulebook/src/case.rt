@@ -9,7 +9,7 @@ pub struct Case {
     pub live: u32,
     // in hundredths of an inch
     pub movement: u16,
-    // about the transverse axis and about the longitudinal axis, in ten_thousandths of a radian
+    // about the transverse axis and about the longitudinal axis, in ten-thousandths of a radian
     pub rotation_x: u16,
     pub rotation_z: u16,
     // 1 where the deck is free to translate, else 0

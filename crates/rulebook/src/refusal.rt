@@ -43,7 +43,7 @@ impl Refusal {
     }
 }
 
-// Admits an item, whose first field outside its limits is `outside`, together with a case, or Refuses by the first that applies.
+// Admits an item, whose first field outside its limits is `outside`, together with a case, or refuses by the first that applies.
 pub fn admit(outside: Option<u8>, case: &Case) -> Result<(), Refusal>
     ensures { result ≡ answered (refusal outside (loads_within case.now) (rest_within case.now)) tt }
 {

@@ -11,7 +11,7 @@ pub record Axis : Type 0 where
   pub base : Fraction
   pub angle : Fraction
 
--- by a base in half inches and an angle in ten_thousandths of a radian
+-- by a base in half inches and an angle in ten-thousandths of a radian
 abbrev pub axis : ℕ → ℕ → Axis
 axis b θ = record { base = halves b; angle = ten_thousandths θ }
 

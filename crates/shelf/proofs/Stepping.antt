@@ -61,7 +61,7 @@ module _ {I T : Type 0} (s s' : Stock I) (k : ℕ) where
   either : (change : Change) (r : Result T Refusal) → Changed change k s r s' → Either change r
   either change r h = either_at change r (slice_get s.places k) refl h
 
-  -- a change that a test Refuses
+  -- a change that a test refuses
   tested : (b : Bool) (why : Refusal) (hand gone : ℕ) (r : Result T Refusal) → ChangedTo (cond b (Err why) (Ok (hand, gone))) k s r s'
       → ((b ≡ true) × (r ≡ Err why) × (s' ≡ s)) ⊎ ((b ≡ false) × ((x : T) × (r ≡ Ok x)) × (s' ≡ with_counts s k hand gone))
   tested true why hand gone (Ok x) h = absurd h

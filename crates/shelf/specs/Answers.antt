@@ -36,7 +36,7 @@ SlipEnds shelf gone number k answer =
     (Refuses answer NoneOut (Off shelf k ⊎ (gone k ≡ 0))
     (answer ≡ Done))
 
--- the checks of each call in their order, and what it answers where none of them Refuses it
+-- the checks of each call in their order, and what it answers where none of them refuses it
 abbrev pub Right : {I : Type 0} → Layout I → (hand gone : ℕ → ℕ) → Call I → Answer I → Type 0
 Right shelf hand gone (receives k n) answer =
     Refuses answer OffShelf (Off shelf k)
