@@ -1,7 +1,7 @@
 ghost use Rattle.shelf.specs.Calls.{picks, orders, returns};
 ghost use Rattle.shelf.specs.Steps.{Step};
 ghost use Rattle.slips.specs.Slips.{picked, ended, BackAs};
-ghost use Rattle.std.specs.Prelude.{◌≡◌};
+ghost use Rattle.std.specs.Prelude.{◌≡◌, false, IfOk};
 
 use super::{HandedBack, Slip};
 use picking::take_best;
@@ -15,12 +15,14 @@ pub fn pick<B: RuleBook, S: Shelf<Item = B::Item>>(
     shelf: &mut S,
     case: &Case,
 ) -> Result<Slip, Refusal>
-    ensures { Step (S.meaning shelf.old) (picks (B.rules book.now) case.now) (picked result) (S.meaning shelf.new) }
+    ensures step { Step (S.meaning shelf.old) (picks (B.rules book.now) case.now) (picked result) (S.meaning shelf.new) }
+    ensures not_ended { IfOk result (λ slip. slip.ended ≡ false) }
 {
     let taken = take_best(book, shelf, case)?;
     Ok(Slip {
         number: taken.number,
         place: taken.place,
+        ended: false,
     })
 }
 

@@ -4,15 +4,15 @@ use Rattle.slips.proofs.Ending.{return_granted}
 
 pub drop-back-requires : goal.drop-back-requires
 drop-back-requires g c =
-    return_granted (g.B.RuleBook.rules c.args.book.now) c.args.case.now (g.S.Shelf.meaning c.args.shelf.now) (g.S.Shelf.meaning c.pick.new.shelf)
-    c.in_ok-slip.slip.number c.in_ok-slip.slip.place c.in_ok-slip.ensures c.in-Err._back.why (g.S.Shelf.meaning c.give_back.new.shelf) c.in-Err.ensures.step
+    absurd (return_granted (g.B.RuleBook.rules c.args.book.now) c.args.case.now (g.S.Shelf.meaning c.args.shelf.now) (g.S.Shelf.meaning c.pick.new.shelf)
+    c.in_ok-slip.slip.number c.in_ok-slip.slip.place c.in_ok-slip.ensures.step c.in-Err._back.why (g.S.Shelf.meaning c.give_back.new.shelf) c.in-Err.ensures.step)
 
 pub returns-in-Ok : goal.returns-in-Ok
 returns-in-Ok g c =
     borrowed_so (g.B.RuleBook.rules c.args.book.now) c.args.case.now (g.S.Shelf.meaning c.args.shelf.now) (g.S.Shelf.meaning c.pick.new.shelf) (g.S.Shelf.meaning c.give_back.new.shelf)
-    c.in_ok-slip.slip.number c.in_ok-slip.slip.place c.place-place.result c.place-place.ensures c.in_ok-slip.ensures c.in-Ok.ensures.step
+    c.in_ok-slip.slip.number c.in_ok-slip.slip.place c.place-place.result c.place-place.ensures c.in_ok-slip.ensures.step c.in-Ok.ensures.step
 
 pub returns-in-Err : goal.returns-in-Err
 returns-in-Err g c =
     absurd (return_granted (g.B.RuleBook.rules c.args.book.now) c.args.case.now (g.S.Shelf.meaning c.args.shelf.now) (g.S.Shelf.meaning c.pick.new.shelf)
-    c.in_ok-slip.slip.number c.in_ok-slip.slip.place c.in_ok-slip.ensures c.in-Err._back.why (g.S.Shelf.meaning c.give_back.new.shelf) c.in-Err.ensures.step)
+    c.in_ok-slip.slip.number c.in_ok-slip.slip.place c.in_ok-slip.ensures.step c.in-Err._back.why (g.S.Shelf.meaning c.give_back.new.shelf) c.in-Err.ensures.step)
