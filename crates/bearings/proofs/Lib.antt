@@ -4,3 +4,4 @@ pub mod Inequalities
 pub mod Shapes
 pub mod Refusing
 pub mod Measures
+pub mod Sizes

@@ -9,7 +9,8 @@ ghost use Rattle.pads.specs.Articles.{plan_of};
 ghost use Rattle.pads.specs.Book.{pad_articles, pad_comparisons, pad_rules};
 ghost use Rattle.std.specs.Prelude.{◌≡◌, None};
 ghost use Rattle.std.proofs.Math.Path.{refl};
-ghost use Rattle.std.proofs.Common.{rules};
+ghost use Rattle.bearings.proofs.Inequalities.{pad_within};
+ghost use Rattle.bearings.proofs.Sizes.{pad_height_fits, plan_fits};
 
 use super::articles::{compression_holds, shear_holds, stability_holds, uplift_holds};
 use bearings::{AdmittedPad, Pad, Plan};
@@ -66,7 +67,7 @@ impl RuleBook for PadBook {
 
     ghost counted = { unfold pad_articles in λ b i c. refl };
 
-    ghost measured = { Prim.search rules };
+    ghost measured = { λ b p within. let w = pad_within p within in (pad_height_fits p w, plan_fits (plan_of p) w.sides_so) };
 
     fn article_count(&self) -> u8 {
         Self::ARTICLES

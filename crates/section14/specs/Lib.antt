@@ -3,4 +3,3 @@ pub mod Axes
 pub mod Articles
 pub mod Cleared
 pub mod Book
-pub mod Sizes

@@ -9,7 +9,7 @@ ghost use Rattle.section14.specs.Book.{section14_articles, section14_comparisons
 ghost use Rattle.std.specs.Prelude.{◌≡◌, None};
 ghost use Rattle.std.proofs.Math.Path.{refl};
 ghost use Rattle.bearings.proofs.Inequalities.{bearing_within};
-ghost use Rattle.section14.specs.Sizes.{height_fits, plan_fits};
+ghost use Rattle.bearings.proofs.Sizes.{height_fits, plan_fits};
 
 use super::articles::{compression_holds, rotation_holds, shear_holds, steel_holds, uplift_holds};
 use bearings::{AdmittedBearing, Bearing};

@@ -1,8 +1,9 @@
-ghost use Rattle.shelf_examples.specs.Blocks.{block_rules};
-ghost use Rattle.std.specs.Prelude.{nat_le};
-ghost use Rattle.std.proofs.Common.{arith, rules};
 ghost use Rattle.rulebook.proofs.Passing.{none_fails};
+ghost use Rattle.shelf_examples.specs.Blocks.{block_rules};
+ghost use Rattle.std.proofs.Common.{refl, lit<};
+ghost use Rattle.std.proofs.Math.Nat.{lt_of_le_of_lt};
 ghost use Rattle.std.proofs.lemmas.Bool.{leb-true};
+ghost use Rattle.std.specs.Prelude.{nat_le};
 
 use rulebook::{Case, Refusal, RuleBook, Verdict, admit, measure};
 
@@ -24,12 +25,12 @@ impl RuleBook for BlockBook {
 
     ghost rules = { λ _. block_rules };
 
-    ghost counted = { Prim.search rules };
+    ghost counted = { λ b i c. refl };
 
     ghost measured = { λ b i within.
-        let first = none_fails (nat_le i.height 100) _ within in
-        let second = none_fails (nat_le i.tag 200) _ first.1 in
-        (omega (arith, leb-true i.height 100 first.0), omega (arith, leb-true i.tag 200 second.0)) };
+        let height = none_fails (nat_le i.height 100) _ within in
+        let tag = none_fails (nat_le i.tag 200) _ height.1 in
+        (lt_of_le_of_lt (leb-true i.height 100 height.0) (lit< tt), lt_of_le_of_lt (leb-true i.tag 200 tag.0) (lit< tt)) };
 
     fn article_count(&self) -> u8 {
         Self::ARTICLES
