@@ -18,7 +18,7 @@ sides_then (Rectangle l w) more h =
     let second = none_fails (side w) more first.1 in
     let length = between_ends 8 l 80 first.0 in
     let width = between_ends 8 w 80 second.0 in
-    ((length.0, length.1, width.0, width.1), second.1)
+    ((length, width), second.1)
 sides_then (Circle d) more h =
     let first = none_fails (side d) more h in (between_ends 8 d 80 first.0, first.1)
 

@@ -1,3 +1,4 @@
+pub mod Axes
 pub mod Clearing
 pub mod Rounding
 pub mod Inequalities

@@ -35,8 +35,8 @@ circle_is d h = (
 
 pub rectangle_small : (l w h : ℕ) → SidesWithin (Rectangle l w) → 4 ≤ h → h ≤ 48 → Small (rectangle_form l w h)
 rectangle_small l w h s low high =
-    let product_low : 64 ≤ l * w = omega (arith, mul-le-mul s.0 s.2) in
-    let product_high : l * w ≤ 6400 = omega (arith, mul-le-mul s.1 s.3) in
+    let product_low : 64 ≤ l * w = omega (arith, mul-le-mul s.0.0 s.1.0) in
+    let product_high : l * w ≤ 6400 = omega (arith, mul-le-mul s.0.1 s.1.1) in
     let square_low = mul-le-mul product_low product_low in
     let square_high = mul-le-mul product_high product_high in
     let sum_low : 16 ≤ l + w = omega arith in
@@ -63,7 +63,7 @@ pub record Positive (plan : Plan) (h : ℕ) : Type 0 where
 pub positive : (plan : Plan) (h : ℕ) → SidesWithin plan → 4 ≤ h → Positive plan h
 unfolding area shape_factor
 positive (Rectangle l w) h s low =
-    let product = mul-le-mul s.0 s.2 in
+    let product = mul-le-mul s.0.0 s.1.0 in
     let sum_low : 16 ≤ l + w = omega arith in
     let edge = mul-le-mul low sum_low in
     record { area_top = omega arith; area_bottom = omega arith; shape_top = omega arith; shape_bottom = omega (arith, edge) }

@@ -17,5 +17,5 @@ pub pad_height_fits : (p : Pad) → PadWithin p → pad_height p < 2 ^ 32
 pad_height_fits p w = omega (arith, w.thickness_so.1)
 
 pub plan_fits : (plan : Plan) → SidesWithin plan → plan_number plan < 2 ^ 32
-plan_fits (Rectangle l w) s = omega (arith, mul-le-mul s.1 s.3)
+plan_fits (Rectangle l w) s = omega (arith, mul-le-mul s.0.1 s.1.1)
 plan_fits (Circle d) s = omega (arith, mul-le-mul s.1 s.1)

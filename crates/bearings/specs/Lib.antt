@@ -3,5 +3,7 @@ pub mod Units
 pub mod Quantities
 pub mod Limits
 pub mod Sizes
+pub mod Axes
 pub mod Bounds
+pub mod Comparisons
 pub mod Forms

@@ -34,6 +34,9 @@ lamination b =
 abbrev pub bearing_outside : Bearing → Option ℕ
 bearing_outside b = first_failing (sides b.plan ++ lamination b)
 
+abbrev pub pad_plan : Pad → Plan
+pad_plan p = Rectangle p.length p.width
+
 -- the first field outside its limits: of L, W, h, G, with h in sixteenths of an inch
 abbrev pub pad_outside : Pad → Option ℕ
 pad_outside p =

@@ -1,11 +1,9 @@
 ghost use Rattle.std.specs.Prelude.{◌≡◌, ◌≤◌, Some, MatchResult};
 ghost use Rattle.bearings.specs.Bounds.{SidesWithin};
 ghost use Rattle.bearings.specs.Forms.{FormOf, Small};
-ghost use Rattle.bearings.specs.Limits.{bearing_outside, pad_outside};
-ghost use Rattle.rulebook.specs.Books.{refusal};
-ghost use Rattle.rulebook.specs.Cases.{loads_within, rest_within};
+ghost use Rattle.rulebook.specs.Books.{refusal_of};
 
-use super::{AdmittedBearing, AdmittedPad, Bearing, Form, Pad, Plan, Ratio};
+use super::{Admitted, Elastomeric, Form, Plan, Ratio};
 use rulebook::{Case, Refusal, admit};
 
 impl Form {
@@ -52,32 +50,15 @@ impl Form {
     }
 }
 
-impl AdmittedBearing {
-    pub fn new(bearing: &Bearing, case: &Case) -> Result<AdmittedBearing, Refusal>
-        ensures { MatchResult result (λ a. (a.bearing ≡ bearing.now) × (a.case ≡ case.now)) (λ why. refusal (bearing_outside bearing.now) (loads_within case.now) (rest_within case.now) ≡ Some why) }
+impl<I: Elastomeric> Admitted<I> {
+    pub fn new(item: &I, case: &Case) -> Result<Admitted<I>, Refusal>
+        ensures { MatchResult result (λ a. (a.item ≡ item.now) × (a.case ≡ case.now)) (λ why. refusal_of (I.outside item.now) case.now ≡ Some why) }
     {
-        admit(bearing.first_outside(), case)?;
-        Ok(AdmittedBearing {
-            bearing: *bearing,
+        admit(item.first_outside(), case)?;
+        Ok(Admitted {
+            item: *item,
             case: *case,
-            form: Form::of(bearing.plan, bearing.thickness),
-        })
-    }
-}
-
-impl AdmittedPad {
-    pub fn new(pad: &Pad, case: &Case) -> Result<AdmittedPad, Refusal>
-        ensures { MatchResult result (λ a. (a.pad ≡ pad.now) × (a.case ≡ case.now)) (λ why. refusal (pad_outside pad.now) (loads_within case.now) (rest_within case.now) ≡ Some why) }
-    {
-        admit(pad.first_outside(), case)?;
-        let plan = Plan::Rectangle {
-            length: pad.length,
-            width: pad.width,
-        };
-        Ok(AdmittedPad {
-            pad: *pad,
-            case: *case,
-            form: Form::of(plan, pad.thickness),
+            form: Form::of(item.plan(), item.thickness()),
         })
     }
 }

@@ -4,12 +4,18 @@
 
 mod admitted;
 mod admitting;
+mod axis;
 mod bearing;
+mod comparing;
+mod elastomeric;
 mod form;
 mod limits;
 mod pad;
+mod pad_limits;
 
-pub use admitted::{AdmittedBearing, AdmittedPad};
+pub use admitted::Admitted;
+pub use axis::Axis;
 pub use bearing::{Bearing, Plan};
+pub use elastomeric::Elastomeric;
 pub use form::{Form, Ratio};
 pub use pad::Pad;

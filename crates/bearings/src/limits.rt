@@ -1,17 +1,17 @@
 ghost use Rattle.std.specs.Prelude.{◌≡◌, ◌≤◌, IfSome};
-ghost use Rattle.bearings.specs.Limits.{side, lamination, bearing_outside, pad_outside};
-ghost use Rattle.bearings.specs.Sizes.{rubber_sixteenths, bearing_height, pad_height, plan_number, PlanNumber, RubberHeight, Height, PadHeight};
+ghost use Rattle.bearings.specs.Limits.{side, lamination, bearing_outside};
+ghost use Rattle.bearings.specs.Sizes.{rubber_sixteenths, bearing_height, plan_number, PlanNumber, RubberHeight, Height};
 ghost use Rattle.rulebook.specs.Tests.{between, first_failing};
 
-use super::{Bearing, Pad, Plan};
+use super::{Bearing, Elastomeric, Plan};
 
-fn in_range(low: u8, x: u8, high: u8) -> bool
+pub(crate) fn in_range(low: u8, x: u8, high: u8) -> bool
     ensures { result ≡ between low x high }
 {
-    low <= x && x <= high
+    (low..=high).contains(&x)
 }
 
-fn side_within(x: u8) -> bool
+pub(crate) fn side_within(x: u8) -> bool
     ensures { result ≡ side x }
 {
     in_range(8, x, 80)
@@ -55,33 +55,6 @@ impl Bearing {
         }
     }
 
-    // The first field outside its limits, counted from 1 in the order L, W, n, h, c, s, G, F, or D, n, h, c, s, G, F.
-    pub fn first_outside(&self) -> Option<u8>
-        ensures { result ≡ bearing_outside self.now }
-    {
-        let before = match self.plan {
-            Plan::Rectangle { length, width } => {
-                if !side_within(length) {
-                    return Some(1);
-                }
-                if !side_within(width) {
-                    return Some(2);
-                }
-                2
-            }
-            Plan::Circle { diameter } => {
-                if !side_within(diameter) {
-                    return Some(1);
-                }
-                1
-            }
-        };
-        match self.lamination_outside() {
-            Some(field) => Some(before + field),
-            None => None,
-        }
-    }
-
     // The height of all its rubber, in sixteenths of an inch.
     pub fn rubber_height(&self) -> u32
         ensures is { result ≡ rubber_sixteenths self.now }
@@ -99,29 +72,46 @@ impl Bearing {
     }
 }
 
-impl Pad {
-    // The first field outside its limits, counted from 1 in the order L, W, h, G.
-    pub fn first_outside(&self) -> Option<u8>
-        ensures { result ≡ pad_outside self.now }
-    {
-        if !side_within(self.length) {
-            Some(1)
-        } else if !side_within(self.width) {
-            Some(2)
-        } else if !in_range(4, self.thickness, 48) {
-            Some(3)
-        } else if !in_range(80, self.modulus, 180) {
-            Some(4)
-        } else {
-            None
-        }
+// The fields are counted in the order L, W, n, h, c, s, G, F, or D, n, h, c, s, G, F.
+impl Elastomeric for Bearing {
+    ghost outside = { bearing_outside };
+
+    ghost plan = { λ b. b.plan };
+
+    ghost thickness = { λ b. b.thickness };
+
+    ghost modulus = { λ b. b.modulus };
+
+    fn first_outside(&self) -> Option<u8> {
+        let before = match self.plan {
+            Plan::Rectangle { length, width } => {
+                if !side_within(length) {
+                    return Some(1);
+                }
+                if !side_within(width) {
+                    return Some(2);
+                }
+                2
+            }
+            Plan::Circle { diameter } => {
+                if !side_within(diameter) {
+                    return Some(1);
+                }
+                1
+            }
+        };
+        self.lamination_outside().map(|field| before + field)
     }
 
-    // In sixty-fourths of an inch.
-    pub fn height(&self) -> u32
-        ensures is { result ≡ pad_height self.now }
-        ensures inches { PadHeight self.now result }
-    {
-        4 * self.thickness as u32
+    fn plan(&self) -> Plan {
+        self.plan
+    }
+
+    fn thickness(&self) -> u8 {
+        self.thickness
+    }
+
+    fn modulus(&self) -> u8 {
+        self.modulus
     }
 }

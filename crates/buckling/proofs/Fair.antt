@@ -26,7 +26,7 @@ pub record FairPlan (plan : Plan) : Type 0 where
 pub fair_plan : (plan : Plan) → SidesWithin plan → FairPlan plan
 unfolding area lesser_side greater_side under_root
 fair_plan (Rectangle l w) s =
-    let product = mul-le-mul s.0 s.2 in omega arith
+    let product = mul-le-mul s.0.0 s.1.0 in omega arith
 fair_plan (Circle d) s =
     let square = mul-le-mul s.0 s.0 in omega arith
 
@@ -62,7 +62,7 @@ module _ (n h c s g f : ℕ) (case : Case) (nl : 1 ≤ n) (hl : 4 ≤ h) (cl : 1
   second_bottom_at : (p : Plan) → SidesWithin p → 0 < (Y (at p)).bottom
   unfolding Y lesser_side greater_side shape_factor
   second_bottom_at (Rectangle l w) s =
-      let product = mul-le-mul s.0 s.2 in
+      let product = mul-le-mul s.0.0 s.1.0 in
       mul-pos (omega arith) (mul-pos (mul-pos (omega arith) (omega arith)) (omega arith))
   second_bottom_at (Circle d) s = mul-pos (omega arith) (mul-pos (mul-pos (omega arith) (omega arith)) (omega arith))
 
@@ -70,7 +70,7 @@ module _ (n h c s g f : ℕ) (case : Case) (nl : 1 ≤ n) (hl : 4 ≤ h) (cl : 1
   unfolding X₀ lesser_side shape_factor
   first_bottom_at (Rectangle l w) s =
       let lesser_low : 8 ≤ min l w = omega arith in
-      rw (deck_bottom case) (omega (arith, mul-le-mul lesser_low (mul-le-mul s.0 s.2)))
+      rw (deck_bottom case) (omega (arith, mul-le-mul lesser_low (mul-le-mul s.0.0 s.1.0)))
   first_bottom_at (Circle d) s = rw (deck_bottom case) (omega (arith, mul-le-mul s.0 s.0))
 
   large_at : (p : Plan) → SidesWithin p → 2002 * ((X₀ (at p) case).bottom * 1732) ≤ 19000000000 * (X₀ (at p) case).top
@@ -81,7 +81,7 @@ module _ (n h c s g f : ℕ) (case : Case) (nl : 1 ≤ n) (hl : 4 ≤ h) (cl : 1
       rw (deck_bottom case, deck_top case)
       (omega (
         arith,
-        mul-le-mul_right w (mul-le-mul lesser_high s.1),
+        mul-le-mul_right w (mul-le-mul lesser_high s.0.1),
         mul-le-mul_right (l + w) (mul-le-mul (mul-le-mul (deck_low case) height_low) hl),
       ))
   large_at (Circle d) s =

@@ -3,8 +3,6 @@ use Rattle.std.proofs.Common.{◌≡◌, ℕ, ◌+◌, ◌*◌, ◌≤◌, min, 
 use Rattle.std.proofs.lemmas.Bool.{cases_lt}
 use Rattle.rulebook.specs.declared.case.Case.{Case}
 use Rattle.bearings.proofs.Inequalities.{BearingWithin}
-use Rattle.bearings.proofs.Refusing.{bearing_so}
-use Rattle.bearings.specs.declared.admitted.AdmittedBearing.{AdmittedBearing}
 use Rattle.bearings.specs.Bounds.{SidesWithin}
 use Rattle.bearings.specs.Quantities.{shape_factor}
 use Rattle.bearings.specs.declared.bearing.Bearing.{Bearing}
@@ -91,8 +89,8 @@ module _ (rubber h units : ℕ) (rh : rubber ≤ 342) (hl : 4 ≤ h) (hh : h ≤
       let greater_high : max l w ≤ 80 = omega arith in
       let sum_low : 16 ≤ l + w = omega arith in
       let sum_high : l + w ≤ 160 = omega arith in
-      let low : 64 ≤ l * w = omega (arith, mul-le-mul s.0 s.2) in
-      let high : l * w ≤ 6400 = omega (arith, mul-le-mul s.1 s.3) in
+      let low : 64 ≤ l * w = omega (arith, mul-le-mul s.0.0 s.1.0) in
+      let high : l * w ≤ 6400 = omega (arith, mul-le-mul s.0.1 s.1.1) in
       let edge_low : 64 ≤ h * (l + w) = omega (arith, mul-le-mul hl sum_low) in
       let edge_high : h * (l + w) ≤ 2560 = omega (arith, mul-le-mul hh sum_high) in
       let both_low : 192 ≤ 2 * (l * w) + h * (l + w) = omega arith in
@@ -123,16 +121,15 @@ rubber_high : (b : Bearing) → BearingWithin b → b.layers * b.thickness + 2 *
 rubber_high b w =
     let so = w.lamination_so in omega (arith, mul-le-mul so.layers.1 so.thickness.1, so.cover.1)
 
-pub rectangle_small : (a : AdmittedBearing) (l w : ℕ) → a.bearing.plan ≡ Rectangle l w
-    → SmallParts (rectangle_quotients l w (a.bearing.layers * a.bearing.thickness + 2 * a.bearing.cover) a.bearing.thickness (deck_units a.case))
-rectangle_small a l w e =
-    let so = bearing_so a in
-    rectangle_small_by _ _ _ (rubber_high a.bearing so) so.lamination_so.thickness.0 so.lamination_so.thickness.1 (deck_high a.case) l w
-    (subst SidesWithin e so.sides_so)
+module _ (b : Bearing) (c : Case) (so : BearingWithin b) where
+  pub rectangle_small : (l w : ℕ) → b.plan ≡ Rectangle l w
+      → SmallParts (rectangle_quotients l w (b.layers * b.thickness + 2 * b.cover) b.thickness (deck_units c))
+  rectangle_small l w e =
+      rectangle_small_by _ _ _ (rubber_high b so) so.lamination_so.thickness.0 so.lamination_so.thickness.1 (deck_high c) l w
+      (subst SidesWithin e so.sides_so)
 
-pub circle_small : (a : AdmittedBearing) (d : ℕ) → a.bearing.plan ≡ Circle d
-    → SmallParts (circle_quotients d (a.bearing.layers * a.bearing.thickness + 2 * a.bearing.cover) a.bearing.thickness (deck_units a.case))
-circle_small a d e =
-    let so = bearing_so a in
-    circle_small_by _ _ _ (rubber_high a.bearing so) so.lamination_so.thickness.0 so.lamination_so.thickness.1 (deck_high a.case) d
-    (subst SidesWithin e so.sides_so)
+  pub circle_small : (d : ℕ) → b.plan ≡ Circle d
+      → SmallParts (circle_quotients d (b.layers * b.thickness + 2 * b.cover) b.thickness (deck_units c))
+  circle_small d e =
+      circle_small_by _ _ _ (rubber_high b so) so.lamination_so.thickness.0 so.lamination_so.thickness.1 (deck_high c) d
+      (subst SidesWithin e so.sides_so)

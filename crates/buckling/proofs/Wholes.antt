@@ -6,13 +6,13 @@ use Rattle.rulebook.specs.Cases.{load}
 use Rattle.rulebook.specs.declared.case.Case.{Case}
 use Rattle.bearings.proofs.Clearing.{cleared}
 use Rattle.bearings.proofs.Inequalities.{BearingWithin, bearing_within}
-use Rattle.bearings.proofs.Refusing.{bearing_so}
+use Rattle.bearings.proofs.Refusing.{FormKept}
 use Rattle.bearings.proofs.Rounding.{up, up_low, up_least, down_greatest, same_up, same_down}
 use Rattle.bearings.specs.Fractions.{Fraction, whole, ◌times◌, ◌per◌, ◌plus◌, ◌at_most◌, holds}
 use Rattle.bearings.specs.Limits.{bearing_outside}
 use Rattle.bearings.specs.Quantities.{area}
-use Rattle.bearings.specs.declared.admitted.AdmittedBearing.{AdmittedBearing}
 use Rattle.bearings.specs.declared.bearing.Bearing.{Bearing}
+use Rattle.bearings.specs.declared.form.Form.{Form}
 use Rattle.buckling.proofs.Fair.{fair_plan, fair_terms}
 use Rattle.buckling.proofs.Roots.{Root, root_under, root_is, root_passes, root_most}
 use Rattle.buckling.specs.Article.{buckling}
@@ -70,13 +70,13 @@ compares_by P G at ab first second A at_pos A_pos same =
     (omega (arith, ap (λ z. P * first * A.top * z) same))
     (omega (arith, ap (λ z. P * second * A.top * z) same))
 
-pub compares : (a : AdmittedBearing)
-    → leb (load a.case * a.form.area.bottom * X' a.bearing a.case) (1000000 * a.bearing.modulus * a.form.area.top + load a.case * a.form.area.bottom * Y' a.bearing)
-    ≡ holds (buckling a.bearing a.case)
+pub compares : (b : Bearing) (c : Case) (f : Form) → FormKept b.plan b.thickness f
+    → leb (load c * f.area.bottom * X' b c) (1000000 * b.modulus * f.area.top + load c * f.area.bottom * Y' b)
+    ≡ holds (buckling b c)
 unfolding buckling
-compares a =
-    compares_by (load a.case) a.bearing.modulus a.form.area.top a.form.area.bottom (X' a.bearing a.case) (Y' a.bearing)
-    (area a.bearing.plan) a.area_small.0.0 (fair_plan a.bearing.plan (bearing_so a).sides_so).area_top a.area_is
+compares b c f kept =
+    compares_by (load c) b.modulus f.area.top f.area.bottom (X' b c) (Y' b)
+    (area b.plan) kept.area_small.0.0 (fair_plan b.plan kept.sides).area_top kept.area_is
 
 -- what the whole numbers are
 module _ (b : Bearing) (c : Case) (w : BearingWithin b) where

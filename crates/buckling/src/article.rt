@@ -5,11 +5,10 @@ ghost use Rattle.bearings.specs.declared.bearing.Plan.TheVariants.{Rectangle, Ci
 ghost use Rattle.buckling.specs.Article.{buckling, ProperTerms};
 ghost use Rattle.buckling.specs.Cleared.{deck_units, PartsOf, SmallParts, whole_terms};
 ghost use Rattle.buckling.specs.Terms.{WholeNumbers};
-ghost use Rattle.rulebook.specs.Books.{refusal, answered};
-ghost use Rattle.rulebook.specs.Cases.{loads_within, rest_within};
+ghost use Rattle.rulebook.specs.Books.{refusal_of, answered};
 
 use super::parts::{Parts, WholeTerms};
-use bearings::{AdmittedBearing, Bearing, Plan, Ratio};
+use bearings::{Admitted, Bearing, Plan, Ratio};
 use rulebook::{Case, Refusal};
 
 // The deck's factor, 3.84 or 1.92, in units of 0.64.
@@ -19,9 +18,9 @@ fn deck_units(case: &Case) -> u64
     if case.deck == 1 { 6 } else { 3 }
 }
 
-fn rectangle_parts(admitted: &AdmittedBearing, length: u8, width: u8) -> Parts
-    requires { admitted.now.bearing.plan ≡ Rectangle length width }
-    ensures is { PartsOf admitted.now.bearing admitted.now.case result }
+fn rectangle_parts(admitted: &Admitted<Bearing>, length: u8, width: u8) -> Parts
+    requires { admitted.now.item.plan ≡ Rectangle length width }
+    ensures is { PartsOf admitted.now.item admitted.now.case result }
     ensures small { SmallParts result }
 {
     let length = length as u64;
@@ -29,10 +28,10 @@ fn rectangle_parts(admitted: &AdmittedBearing, length: u8, width: u8) -> Parts
     let lesser = length.min(width);
     let greater = length.max(width);
     let product = length * width;
-    let edge = admitted.bearing.thickness as u64 * (length + width);
+    let edge = admitted.item.thickness as u64 * (length + width);
     Parts {
         first: Ratio {
-            top: deck_units(&admitted.case) * admitted.bearing.rubber_height() as u64 * edge,
+            top: deck_units(&admitted.case) * admitted.item.rubber_height() as u64 * edge,
             bottom: 50 * (lesser * product),
         },
         second: Ratio {
@@ -44,16 +43,16 @@ fn rectangle_parts(admitted: &AdmittedBearing, length: u8, width: u8) -> Parts
     }
 }
 
-fn circle_parts(admitted: &AdmittedBearing, diameter: u8) -> Parts
-    requires { admitted.now.bearing.plan ≡ Circle diameter }
-    ensures is { PartsOf admitted.now.bearing admitted.now.case result }
+fn circle_parts(admitted: &Admitted<Bearing>, diameter: u8) -> Parts
+    requires { admitted.now.item.plan ≡ Circle diameter }
+    ensures is { PartsOf admitted.now.item admitted.now.case result }
     ensures small { SmallParts result }
 {
     let diameter = diameter as u64;
-    let thickness = admitted.bearing.thickness as u64;
+    let thickness = admitted.item.thickness as u64;
     Parts {
         first: Ratio {
-            top: deck_units(&admitted.case) * admitted.bearing.rubber_height() as u64 * thickness,
+            top: deck_units(&admitted.case) * admitted.item.rubber_height() as u64 * thickness,
             bottom: 20 * (diameter * diameter),
         },
         second: Ratio {
@@ -65,11 +64,11 @@ fn circle_parts(admitted: &AdmittedBearing, diameter: u8) -> Parts
     }
 }
 
-fn parts_of(admitted: &AdmittedBearing) -> Parts
-    ensures is { PartsOf admitted.now.bearing admitted.now.case result }
+fn parts_of(admitted: &Admitted<Bearing>) -> Parts
+    ensures is { PartsOf admitted.now.item admitted.now.case result }
     ensures small { SmallParts result }
 {
-    match admitted.bearing.plan {
+    match admitted.item.plan {
         Plan::Rectangle { length, width } => rectangle_parts(admitted, length, width),
         Plan::Circle { diameter } => circle_parts(admitted, diameter),
     }
@@ -88,8 +87,8 @@ fn greatest_root(lesser: u64, greater: u64) -> u64
     (1_000_000 * (greater + 2 * lesser) / greater).isqrt()
 }
 
-fn terms(admitted: &AdmittedBearing) -> WholeTerms
-    ensures is { result ≡ whole_terms admitted.now.bearing admitted.now.case }
+fn terms(admitted: &Admitted<Bearing>) -> WholeTerms
+    ensures is { result ≡ whole_terms admitted.now.item admitted.now.case }
     ensures first_high { result.first ≤ 300000001 }
     ensures second_high { result.second ≤ 300000000 }
 {
@@ -103,21 +102,20 @@ fn terms(admitted: &AdmittedBearing) -> WholeTerms
 
 // X' and Y' of a bearing under a case.
 pub fn whole_terms(bearing: &Bearing, case: &Case) -> Result<WholeTerms, Refusal>
-    ensures is { result ≡ answered (refusal (bearing_outside bearing.now) (loads_within case.now) (rest_within case.now)) (whole_terms bearing.now case.now) }
+    ensures is { result ≡ answered (refusal_of (bearing_outside bearing.now) case.now) (whole_terms bearing.now case.now) }
     ensures rounded { bearing_outside bearing.now ≡ None → WholeNumbers bearing.now case.now }
     ensures proper { bearing_outside bearing.now ≡ None → ProperTerms bearing.now case.now }
 {
-    let admitted = AdmittedBearing::new(bearing, case)?;
+    let admitted = Admitted::new(bearing, case)?;
     Ok(terms(&admitted))
 }
 
 // Whether the article is found to hold: T(X' − Y') ≤ 1,000,000·G.
-pub fn buckling_holds(admitted: &AdmittedBearing) -> bool
-    ensures { result ≡ holds (buckling admitted.now.bearing admitted.now.case) }
+pub fn buckling_holds(admitted: &Admitted<Bearing>) -> bool
+    ensures { result ≡ holds (buckling admitted.now.item admitted.now.case) }
 {
     let terms = terms(admitted);
     let area = admitted.form.area;
     let load = admitted.case.load() * area.bottom;
-    load * terms.first
-        <= 1_000_000 * admitted.bearing.modulus as u64 * area.top + load * terms.second
+    load * terms.first <= 1_000_000 * admitted.item.modulus as u64 * area.top + load * terms.second
 }

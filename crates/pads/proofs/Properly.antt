@@ -4,15 +4,15 @@ use Rattle.rulebook.specs.declared.case.Case.{Case}
 use Rattle.bearings.proofs.Inequalities.{PadWithin, pad_within}
 use Rattle.bearings.proofs.Shapes.{Positive, positive}
 use Rattle.bearings.specs.Fractions.{Proper, AllProper, EveryProper}
-use Rattle.bearings.specs.Limits.{pad_outside}
+use Rattle.bearings.specs.Limits.{pad_outside, pad_plan}
 use Rattle.bearings.specs.Quantities.{ProperQuantities}
 use Rattle.bearings.specs.declared.pad.Pad.{Pad}
-use Rattle.pads.specs.Articles.{plan_of, T, GS, compression, shear, uplift_on, uplift, stability}
+use Rattle.pads.specs.Articles.{T, GS, compression, shear, uplift_on, uplift, stability}
 use Rattle.pads.specs.Book.{pad_comparisons}
 
 module _ (p : Pad) (c : Case) (w : PadWithin p) where
-  so : Positive (plan_of p) p.thickness
-  so = positive (plan_of p) p.thickness w.sides_so w.thickness_so.0
+  so : Positive (pad_plan p) p.thickness
+  so = positive (pad_plan p) p.thickness w.sides_so w.thickness_so.0
 
   T_proper : Proper (T p c)
   T_proper = omega (arith, so.area_top)
@@ -45,8 +45,8 @@ pub every_proper : (p : Pad) (c : Case) → pad_outside p ≡ None → EveryProp
 every_proper p c within =
     let w = pad_within p within in (compression_proper p c w, (shear_proper p c w, (uplift_proper p c w, (stability_proper p c w, tt))))
 
-pub quantities_proper : (p : Pad) → pad_outside p ≡ None → ProperQuantities (plan_of p) p.thickness
+pub quantities_proper : (p : Pad) → pad_outside p ≡ None → ProperQuantities (pad_plan p) p.thickness
 quantities_proper p within =
     let w = pad_within p within in
-    let so = positive (plan_of p) p.thickness w.sides_so w.thickness_so.0 in
+    let so = positive (pad_plan p) p.thickness w.sides_so w.thickness_so.0 in
     (so.area_bottom, so.shape_bottom)

@@ -3,14 +3,10 @@ use Rattle.std.specs.Prelude.{ℕ, List, [], ◌∷◌}
 use Rattle.rulebook.specs.Cases.{load}
 use Rattle.rulebook.specs.declared.case.Case.{Case}
 use Rattle.bearings.specs.Fractions.{Fraction, Comparison, ◌over◌, whole, ◌times◌, ◌per◌, ◌at_most◌, squared}
+use Rattle.bearings.specs.Limits.{pad_plan}
 use Rattle.bearings.specs.Quantities.{shape_factor, stress}
 use Rattle.bearings.specs.Units.{halves, sixteenths, hundredths, ten_thousandths}
-use Rattle.bearings.specs.declared.bearing.Plan.{Plan}
-use Rattle.bearings.specs.declared.bearing.Plan.TheVariants.{Rectangle}
 use Rattle.bearings.specs.declared.pad.Pad.{Pad}
-
-abbrev pub plan_of : Pad → Plan
-plan_of p = Rectangle p.length p.width
 
 -- h, inches
 abbrev pub h : Pad → Fraction
@@ -18,11 +14,11 @@ h p = sixteenths p.thickness
 
 -- T, of the whole load
 abbrev pub T : Pad → Case → Fraction
-T p c = stress (load c) (plan_of p)
+T p c = stress (load c) (pad_plan p)
 
 -- GS
 abbrev pub GS : Pad → Fraction
-GS p = whole p.modulus times shape_factor (plan_of p) p.thickness
+GS p = whole p.modulus times shape_factor (pad_plan p) p.thickness
 
 -- 1. Compression: T ≤ 800 and T ≤ 1.00GS
 abbrev pub stress_within : Pad → Case → Comparison

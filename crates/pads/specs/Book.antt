@@ -4,10 +4,10 @@ use Rattle.rulebook.specs.Books.{Rules}
 use Rattle.rulebook.specs.Cases.{loads_within, rest_within}
 use Rattle.rulebook.specs.declared.case.Case.{Case}
 use Rattle.bearings.specs.Fractions.{Comparison, all_hold}
-use Rattle.bearings.specs.Limits.{pad_outside}
+use Rattle.bearings.specs.Limits.{pad_outside, pad_plan}
 use Rattle.bearings.specs.Sizes.{pad_height, plan_number}
 use Rattle.bearings.specs.declared.pad.Pad.{Pad}
-use Rattle.pads.specs.Articles.{plan_of, compression, shear, uplift, stability}
+use Rattle.pads.specs.Articles.{compression, shear, uplift, stability}
 
 -- the comparisons of the articles 1 to 4
 abbrev pub pad_comparisons : Pad → Case → List (List Comparison)
@@ -29,5 +29,5 @@ pad_rules = record {
   rest = rest_within;
   articles = pad_articles;
   height = pad_height;
-  plan_number = λ p. plan_number (plan_of p);
+  plan_number = λ p. plan_number (pad_plan p);
 }

@@ -1,11 +1,9 @@
 ghost use Rattle.bearings.specs.Fractions.{EveryProper};
-ghost use Rattle.bearings.specs.Limits.{pad_outside};
+ghost use Rattle.bearings.specs.Limits.{pad_outside, pad_plan};
 ghost use Rattle.bearings.specs.Quantities.{ProperQuantities};
-ghost use Rattle.rulebook.specs.Books.{refusal, answered};
-ghost use Rattle.rulebook.specs.Cases.{loads_within, rest_within};
+ghost use Rattle.rulebook.specs.Books.{refusal_of, answered};
 ghost use Rattle.rulebook.specs.Tests.{first_failing};
 ghost use Rattle.rulebook.specs.Verdicts.{verdict_by};
-ghost use Rattle.pads.specs.Articles.{plan_of};
 ghost use Rattle.pads.specs.Book.{pad_articles, pad_comparisons, pad_rules};
 ghost use Rattle.std.specs.Prelude.{◌≡◌, None};
 ghost use Rattle.std.proofs.Math.Path.{refl};
@@ -13,7 +11,7 @@ ghost use Rattle.bearings.proofs.Inequalities.{pad_within};
 ghost use Rattle.bearings.proofs.Sizes.{pad_height_fits, plan_fits};
 
 use super::articles::{compression_holds, shear_holds, stability_holds, uplift_holds};
-use bearings::{AdmittedPad, Pad, Plan};
+use bearings::{Admitted, Elastomeric, Pad};
 use rulebook::{Case, Refusal, RuleBook, Verdict, measure};
 
 // The book for plain pads. It has no state: its rules are the same wherever it is used.
@@ -21,8 +19,9 @@ use rulebook::{Case, Refusal, RuleBook, Verdict, measure};
 pub struct PadBook;
 
 // The first article that does not hold decides, and those behind it are not looked at.
-fn verdict_of(admitted: &AdmittedPad) -> Verdict
-    ensures { result ≡ verdict_by (first_failing (pad_articles admitted.now.pad admitted.now.case)) }
+#[tactic(auto, unfolding(crate::specs::Book::pad_articles))]
+fn verdict_of(admitted: &Admitted<Pad>) -> Verdict
+    ensures { result ≡ verdict_by (first_failing (pad_articles admitted.now.item admitted.now.case)) }
 {
     if !compression_holds(admitted) {
         Verdict::Fails { article: 1 }
@@ -37,8 +36,9 @@ fn verdict_of(admitted: &AdmittedPad) -> Verdict
     }
 }
 
-fn articles_of(admitted: &AdmittedPad) -> [bool; 4]
-    ensures { result ≡ pad_articles admitted.now.pad admitted.now.case }
+#[tactic(auto, unfolding(crate::specs::Book::pad_articles))]
+fn articles_of(admitted: &Admitted<Pad>) -> [bool; 4]
+    ensures { result ≡ pad_articles admitted.now.item admitted.now.case }
 {
     [
         compression_holds(admitted),
@@ -50,11 +50,11 @@ fn articles_of(admitted: &AdmittedPad) -> [bool; 4]
 
 // Whether each article holds, for a reader who wants to know why a verdict came out as it did.
 pub fn article_list(pad: &Pad, case: &Case) -> Result<[bool; 4], Refusal>
-    ensures is { result ≡ answered (refusal (pad_outside pad.now) (loads_within case.now) (rest_within case.now)) (pad_articles pad.now case.now) }
+    ensures is { result ≡ answered (refusal_of (pad_outside pad.now) case.now) (pad_articles pad.now case.now) }
     ensures proper { pad_outside pad.now ≡ None → EveryProper (pad_comparisons pad.now case.now) }
-    ensures quantities { pad_outside pad.now ≡ None → ProperQuantities (plan_of pad.now) pad.now.thickness }
+    ensures quantities { pad_outside pad.now ≡ None → ProperQuantities (pad_plan pad.now) pad.now.thickness }
 {
-    let admitted = AdmittedPad::new(pad, case)?;
+    let admitted = Admitted::new(pad, case)?;
     Ok(articles_of(&admitted))
 }
 
@@ -67,7 +67,7 @@ impl RuleBook for PadBook {
 
     ghost counted = { unfold pad_articles in λ b i c. refl };
 
-    ghost measured = { λ b p within. let w = pad_within p within in (pad_height_fits p w, plan_fits (plan_of p) w.sides_so) };
+    ghost measured = { λ b p within. let w = pad_within p within in (pad_height_fits p w, plan_fits (pad_plan p) w.sides_so) };
 
     fn article_count(&self) -> u8 {
         Self::ARTICLES
@@ -86,7 +86,7 @@ impl RuleBook for PadBook {
     }
 
     fn verdict(&self, item: &Pad, case: &Case) -> Result<Verdict, Refusal> {
-        let admitted = AdmittedPad::new(item, case)?;
+        let admitted = Admitted::new(item, case)?;
         Ok(verdict_of(&admitted))
     }
 
@@ -95,10 +95,6 @@ impl RuleBook for PadBook {
     }
 
     fn plan_number(&self, item: &Pad) -> Result<u32, Refusal> {
-        let plan = Plan::Rectangle {
-            length: item.length,
-            width: item.width,
-        };
-        measure(self.first_outside(item), plan.number())
+        measure(self.first_outside(item), item.plan().number())
     }
 }

@@ -4,6 +4,7 @@ use Rattle.rulebook.specs.declared.case.Case.{Case}
 use Rattle.rulebook.specs.declared.refusal.Refusal.{Refusal}
 use Rattle.rulebook.specs.declared.refusal.Refusal.TheVariants.{Item, Loads, Rest}
 use Rattle.rulebook.specs.declared.verdict.Verdict.{Verdict}
+use Rattle.rulebook.specs.Cases.{loads_within, rest_within}
 use Rattle.rulebook.specs.Tests.{first_failing}
 use Rattle.rulebook.specs.Verdicts.{verdict_by}
 
@@ -34,6 +35,10 @@ item_refusal None = None
 abbrev pub refusal : Option ℕ → (loads rest : Bool) → Option Refusal
 refusal (Some field) loads rest = Some (Item field)
 refusal None loads rest = cond loads (cond rest None (Some Rest)) (Some Loads)
+
+-- the same, by the limits of a case
+abbrev pub refusal_of : Option ℕ → Case → Option Refusal
+refusal_of outside c = refusal outside (loads_within c) (rest_within c)
 
 -- an answer, unless it is refused
 abbrev pub answered : {A : Type 0} → Option Refusal → A → Result A Refusal

@@ -25,10 +25,7 @@ pub trait RuleBook {
     fn item_within(&self, item: &Self::Item) -> bool
         ensures { result ≡ within ((rules self.now).outside item.now) }
     {
-        match self.first_outside(item) {
-            None => true,
-            Some(_) => false,
-        }
+        self.first_outside(item).is_none()
     }
 
     fn loads_within(&self, case: &Case) -> bool
@@ -55,11 +52,7 @@ pub trait RuleBook {
 fn is_pass(answer: Result<Verdict, Refusal>) -> bool
     ensures { result ≡ passing answer }
 {
-    match answer {
-        Ok(Verdict::Passes) => true,
-        Ok(Verdict::Fails { article: _ }) => false,
-        Err(_) => false,
-    }
+    matches!(answer, Ok(Verdict::Passes))
 }
 
 // Whether an item passes under a case, by any book: both lie within the limits, and every article holds. The verdict then has the number 0, and

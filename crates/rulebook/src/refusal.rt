@@ -1,5 +1,4 @@
-ghost use Rattle.rulebook.specs.Books.{refusal, item_refusal, answered};
-ghost use Rattle.rulebook.specs.Cases.{loads_within, rest_within};
+ghost use Rattle.rulebook.specs.Books.{refusal_of, item_refusal, answered};
 ghost use Rattle.rulebook.specs.Refusals.{number_of};
 ghost use Rattle.std.specs.Prelude.{◌≡◌};
 
@@ -45,7 +44,7 @@ impl Refusal {
 
 // Admits an item, whose first field outside its limits is `outside`, together with a case, or refuses by the first that applies.
 pub fn admit(outside: Option<u8>, case: &Case) -> Result<(), Refusal>
-    ensures { result ≡ answered (refusal outside (loads_within case.now) (rest_within case.now)) tt }
+    ensures { result ≡ answered (refusal_of outside case.now) tt }
 {
     if let Some(field) = outside {
         return Err(Refusal::Item { field });

@@ -2,7 +2,7 @@
 -- factor, AS with the code's st/sb, G the modulus.
 use Rattle.std.proofs.Common.{◌≡◌, ℕ, ◌+◌, ◌*◌, ◌<◌, leb, ap, ◌∙◌, mul-pos, arith}
 use Rattle.bearings.proofs.Clearing.{cleared}
-use Rattle.bearings.specs.Fractions.{Fraction, ◌over◌, whole, ◌times◌, ◌per◌, ◌plus◌, ◌at_most◌, squared, holds}
+use Rattle.bearings.specs.Fractions.{Fraction, whole, ◌times◌, ◌per◌, ◌plus◌, ◌at_most◌, squared, holds}
 use Rattle.bearings.specs.Units.{halves, sixteenths, sixty_fourths, hundredths, ten_thousandths, thousands}
 
 module _ (A : Fraction) (at ab : ℕ) (at_pos : 0 < at) (A_pos : 0 < A.top) (same : at * A.bottom ≡ A.top * ab) where
@@ -16,9 +16,10 @@ module _ (A : Fraction) (at ab : ℕ) (at_pos : 0 < at) (A_pos : 0 < A.top) (sam
   steel_live_cleared P h s =
       cleared at (128 * A.top) _ _ _ _ at_pos (omega (arith, A_pos)) (omega (arith, ap (λ z. 128 * h * P * z) same)) (omega arith)
 
-pub shear_cleared : (M n h c : ℕ) → leb (8 * M) (25 * (n * h + 2 * c))
-    ≡ holds (whole 2 times hundredths M at_most whole n times sixteenths h plus whole 2 times sixteenths c)
-shear_cleared M n h c = cleared 1 64 _ _ _ _ (omega arith) (omega arith) (omega arith) (omega arith)
+-- a height of so many sixteenths is that of n layers of h and two covers of c
+pub rubber_cleared : (M n h c : ℕ)
+    → holds (whole 2 times hundredths M at_most sixteenths (n * h + 2 * c)) ≡ holds (whole 2 times hundredths M at_most whole n times sixteenths h plus whole 2 times sixteenths c)
+rubber_cleared M n h c = cleared 1 16 _ _ _ _ (omega arith) (omega arith) (omega arith) (omega arith)
 
 -- The rotation article, in steps with few factors each: D is the tops of A and S, E their bottoms, N is nh², W is θB², R the bottoms of k and v,
 -- F those of k and S.
@@ -61,10 +62,6 @@ rotation_limit G n h K st At St kt kb vb F same =
 
 module _ (A S : Fraction) (st sb : ℕ) (st_pos : 0 < st) (A_pos : 0 < A.top) (S_pos : 0 < S.top) (bottom_pos : 0 < S.bottom)
     (same : st * (A.bottom * S.bottom) ≡ A.top * S.top * sb) where
-  pub load_cleared : (P G factor : ℕ) → leb (100 * (P * sb)) (factor * (G * st)) ≡ holds (whole P per A at_most factor over 100 times (whole G times S))
-  load_cleared P G factor =
-      cleared st (A.top * S.top) _ _ _ _ st_pos (mul-pos A_pos S_pos) (omega (arith, ap (λ z. 100 * P * z) same)) (omega arith)
-
   pub uplift_cleared : (P G n h b θ U : ℕ) (u : Fraction) → 0 < u.bottom → U * u.bottom ≡ u.top * 4
       → leb (U * (G * st * (θ * (b * b)))) (625 * (n * (h * h) * (P * sb)))
       ≡ holds (u times (whole G times S) times (ten_thousandths θ per whole n times squared (halves b per sixteenths h)) at_most whole P per A)

@@ -1,8 +1,7 @@
 ghost use Rattle.bearings.specs.Fractions.{EveryProper};
 ghost use Rattle.bearings.specs.Limits.{bearing_outside};
 ghost use Rattle.bearings.specs.Quantities.{ProperQuantities};
-ghost use Rattle.rulebook.specs.Books.{refusal, answered};
-ghost use Rattle.rulebook.specs.Cases.{loads_within, rest_within};
+ghost use Rattle.rulebook.specs.Books.{refusal_of, answered};
 ghost use Rattle.rulebook.specs.Tests.{first_failing};
 ghost use Rattle.rulebook.specs.Verdicts.{verdict_by};
 ghost use Rattle.section14.specs.Book.{section14_articles, section14_comparisons, section14_rules};
@@ -12,7 +11,7 @@ ghost use Rattle.bearings.proofs.Inequalities.{bearing_within};
 ghost use Rattle.bearings.proofs.Sizes.{height_fits, plan_fits};
 
 use super::articles::{compression_holds, rotation_holds, shear_holds, steel_holds, uplift_holds};
-use bearings::{AdmittedBearing, Bearing};
+use bearings::{Admitted, Bearing, Elastomeric};
 use buckling::buckling_holds;
 use rulebook::{Case, Refusal, RuleBook, Verdict, measure};
 
@@ -21,8 +20,9 @@ use rulebook::{Case, Refusal, RuleBook, Verdict, measure};
 pub struct Section14;
 
 // The first article that does not hold decides, and those behind it are not looked at.
-fn verdict_of(admitted: &AdmittedBearing) -> Verdict
-    ensures { result ≡ verdict_by (first_failing (section14_articles admitted.now.bearing admitted.now.case)) }
+#[tactic(auto, unfolding(crate::specs::Book::section14_articles))]
+fn verdict_of(admitted: &Admitted<Bearing>) -> Verdict
+    ensures { result ≡ verdict_by (first_failing (section14_articles admitted.now.item admitted.now.case)) }
 {
     if !compression_holds(admitted) {
         Verdict::Fails { article: 1 }
@@ -41,8 +41,9 @@ fn verdict_of(admitted: &AdmittedBearing) -> Verdict
     }
 }
 
-fn articles_of(admitted: &AdmittedBearing) -> [bool; 6]
-    ensures { result ≡ section14_articles admitted.now.bearing admitted.now.case }
+#[tactic(auto, unfolding(crate::specs::Book::section14_articles))]
+fn articles_of(admitted: &Admitted<Bearing>) -> [bool; 6]
+    ensures { result ≡ section14_articles admitted.now.item admitted.now.case }
 {
     [
         compression_holds(admitted),
@@ -56,11 +57,11 @@ fn articles_of(admitted: &AdmittedBearing) -> [bool; 6]
 
 // Whether each article holds, for a reader who wants to know why a verdict came out as it did.
 pub fn article_list(bearing: &Bearing, case: &Case) -> Result<[bool; 6], Refusal>
-    ensures is { result ≡ answered (refusal (bearing_outside bearing.now) (loads_within case.now) (rest_within case.now)) (section14_articles bearing.now case.now) }
+    ensures is { result ≡ answered (refusal_of (bearing_outside bearing.now) case.now) (section14_articles bearing.now case.now) }
     ensures proper { bearing_outside bearing.now ≡ None → EveryProper (section14_comparisons bearing.now case.now) }
     ensures quantities { bearing_outside bearing.now ≡ None → ProperQuantities bearing.now.plan bearing.now.thickness }
 {
-    let admitted = AdmittedBearing::new(bearing, case)?;
+    let admitted = Admitted::new(bearing, case)?;
     Ok(articles_of(&admitted))
 }
 
@@ -92,7 +93,7 @@ impl RuleBook for Section14 {
     }
 
     fn verdict(&self, item: &Bearing, case: &Case) -> Result<Verdict, Refusal> {
-        let admitted = AdmittedBearing::new(item, case)?;
+        let admitted = Admitted::new(item, case)?;
         Ok(verdict_of(&admitted))
     }
 

@@ -17,7 +17,7 @@ pub(crate) const ROWS: [Row; 4] = [
 // The most that the stress may be, in psi, and the most times GS that the stresses of the whole load and of the live load may be, in hundredths.
 #[derive(Clone, Copy)]
 pub(crate) struct CompressionLimits {
-    pub(crate) stress: u64,
-    pub(crate) total: u64,
-    pub(crate) live: u64,
+    pub(crate) stress: u16,
+    pub(crate) total: u16,
+    pub(crate) live: u16,
 }

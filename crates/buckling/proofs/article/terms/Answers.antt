@@ -1,18 +1,7 @@
 use Rattle.std.proofs.Common.{◌∙◌, arith}
 use Rattle.bearings.proofs.Refusing.{bearing_so}
-use Rattle.buckling.proofs.Wholes.{divisor_low, divisor_high, first_most, second_most, first_is, second_is}
+use Rattle.buckling.proofs.Wholes.{first_most, second_most, first_is, second_is}
 use Rattle.buckling.proofs.article.terms.Goals as goal
-
-pub overflow_mul-parts-2 : goal.overflow_mul-parts-2
-overflow_mul-parts-2 c =
-    let root = c.greatest_root-root.ensures in
-    omega (arith, divisor_high c.parts_of-parts.result c.parts_of-parts.ensures.small c.greatest_root-root.result root.low_bound root.high_bound)
-
-pub div_ceil-requires : goal.div_ceil-requires
-div_ceil-requires c =
-    let root = c.greatest_root-root.ensures in
-    let small = c.parts_of-parts.ensures.small in
-    omega (arith, divisor_low c.parts_of-parts.result small c.greatest_root-root.result root.low_bound root.high_bound, small.first_low)
 
 pub returns : goal.returns
 returns c =
@@ -22,8 +11,8 @@ returns c =
     let small = c.parts_of-parts.ensures.small in
     let r = c.greatest_root-root.result in
     let root = c.greatest_root-root.ensures in
-    let first = c.div_ceil.ensures ∙ first_is a.bearing a.case (bearing_so a) q is small r root.fits root.next root.low_bound in
-    let second = second_is a.bearing a.case (bearing_so a) q is small r root.fits root.next root.low_bound in
+    let first = c.div_ceil.ensures ∙ first_is a.item a.case (bearing_so a.item a.item_within) q is small r root.fits root.next root.low_bound in
+    let second = second_is a.item a.case (bearing_so a.item a.item_within) q is small r root.fits root.next root.low_bound in
     record {
       is = λ i. record { first = first i; second = second i };
       first_high = omega (arith, c.div_ceil.ensures, first_most q small r root.low_bound root.high_bound);

@@ -1,6 +1,6 @@
-use Rattle.pads.proofs.Held.{uplift_held_on}
+use Rattle.std.proofs.Common.{rules, ◌∙◌}
+use Rattle.pads.proofs.Held.{uplift_on_axes}
 use Rattle.pads.proofs.articles.uplift_holds.Goals as goal
 
 pub returns : goal.returns
-returns c =
-    simp (c.uplift_holds_on.ensures, c.uplift_holds_on-2.ensures) (uplift_held_on c.args.admitted.now.pad c.args.admitted.now.case)
+returns c = c.holds_on_axes.ensures _ (λ x r k. search rules) ∙ uplift_on_axes c.args.admitted.now.item c.args.admitted.now.case

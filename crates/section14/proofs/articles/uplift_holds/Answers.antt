@@ -1,13 +1,6 @@
-use Rattle.section14.proofs.Held.{uplift_rectangle, uplift_circle}
+use Rattle.std.proofs.Common.{rules, ◌∙◌}
+use Rattle.section14.proofs.Held.{uplift_on_axes}
 use Rattle.section14.proofs.articles.uplift_holds.Goals as goal
 
-pub returns-in-Rectangle : goal.returns-in-Rectangle
-returns-in-Rectangle c =
-    let a = c.args.admitted.now in
-    simp (c.uplift_holds_on.ensures, c.uplift_holds_on-in-Rectangle.ensures)
-    (uplift_rectangle a.bearing a.case c.in-Rectangle.length c.in-Rectangle.width c.in-Rectangle.is)
-
-pub returns-in-Circle : goal.returns-in-Circle
-returns-in-Circle c =
-    let a = c.args.admitted.now in
-    simp (c.uplift_holds_on-in-Circle.ensures, c.max.ensures) (uplift_circle a.bearing a.case c.in-Circle.diameter c.in-Circle.is)
+pub returns : goal.returns
+returns c = c.holds_on_axes.ensures _ (λ x r k. search rules) ∙ uplift_on_axes c.args.admitted.now.item c.args.admitted.now.case
