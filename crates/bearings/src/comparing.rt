@@ -62,13 +62,15 @@ impl<I: Elastomeric> Admitted<I> {
         let case = &self.case;
         match self.item.plan() {
             Plan::Rectangle { length, width } => {
-                test(Axis {
+                let along = Axis {
                     base: length,
                     angle: case.rotation_x,
-                }) && test(Axis {
+                };
+                let across = Axis {
                     base: width,
                     angle: case.rotation_z,
-                })
+                };
+                test(along) & test(across)
             }
             Plan::Circle { diameter } => test(Axis {
                 base: diameter,

@@ -12,13 +12,14 @@ ghost use Rattle.bearings.proofs.Sizes.{pad_height_fits, plan_fits};
 
 use super::articles::{compression_holds, shear_holds, stability_holds, uplift_holds};
 use bearings::{Admitted, Elastomeric, Pad};
-use rulebook::{Case, Refusal, RuleBook, Verdict, measure};
+use rulebook::{Case, Refusal, RuleBook, Size, Verdict, measure};
 
 // The book for plain pads. It has no state: its rules are the same wherever it is used.
 #[derive(Clone, Copy)]
 pub struct PadBook;
 
-// The first article that does not hold decides, and those behind it are not looked at.
+// The first article that does not hold decides, and those behind it are not looked at: a list of articles would ask for the value of each. The Section 14 book has
+// other articles in this form.
 #[tactic(auto, unfolding(crate::specs::Book::pad_articles))]
 fn verdict_of(admitted: &Admitted<Pad>) -> Verdict
     ensures { result ≡ verdict_by (first_failing (pad_articles admitted.now.item admitted.now.case)) }
@@ -48,7 +49,8 @@ fn articles_of(admitted: &Admitted<Pad>) -> [bool; 4]
     ]
 }
 
-// Whether each article holds, for a reader who wants to know why a verdict came out as it did.
+// Whether each article holds, for a reader who wants to know why a verdict came out as it did. It is written for each book: that every side is a number is
+// proved from the book's own articles, and the impl of a trait can't cite a lemma of its own crate.
 pub fn article_list(pad: &Pad, case: &Case) -> Result<[bool; 4], Refusal>
     ensures is { result ≡ answered (refusal_of (pad_outside pad.now) case.now) (pad_articles pad.now case.now) }
     ensures proper { pad_outside pad.now ≡ None → EveryProper (pad_comparisons pad.now case.now) }
@@ -90,11 +92,11 @@ impl RuleBook for PadBook {
         Ok(verdict_of(&admitted))
     }
 
-    fn height(&self, item: &Pad) -> Result<u32, Refusal> {
-        measure(self.first_outside(item), item.height())
-    }
-
-    fn plan_number(&self, item: &Pad) -> Result<u32, Refusal> {
-        measure(self.first_outside(item), item.plan().number())
+    fn size(&self, item: &Pad) -> Result<Size, Refusal> {
+        let size = Size {
+            height: item.height(),
+            plan_number: item.plan().number(),
+        };
+        measure(self.first_outside(item), size)
     }
 }

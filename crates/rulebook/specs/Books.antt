@@ -3,6 +3,7 @@ use Rattle.std.specs.Prelude.{ℕ, Bool, true, false, cond, ◌&&◌, List, [], 
 use Rattle.rulebook.specs.declared.case.Case.{Case}
 use Rattle.rulebook.specs.declared.refusal.Refusal.{Refusal}
 use Rattle.rulebook.specs.declared.refusal.Refusal.TheVariants.{Item, Loads, Rest}
+use Rattle.rulebook.specs.declared.size.Size.{Size}
 use Rattle.rulebook.specs.declared.verdict.Verdict.{Verdict}
 use Rattle.rulebook.specs.Cases.{loads_within, rest_within}
 use Rattle.rulebook.specs.Tests.{first_failing}
@@ -48,6 +49,9 @@ answered None answer = Ok answer
 -- the first article that does not hold decides
 abbrev pub verdict_of : {I : Type 0} → Rules I → I → Case → Result Verdict Refusal
 verdict_of R i c = answered (refusal (R.outside i) (R.loads c) (R.rest c)) (verdict_by (first_failing (R.articles i c)))
+
+abbrev pub size_of : {I : Type 0} → Rules I → I → Result Size Refusal
+size_of R i = answered (item_refusal (R.outside i)) (record { height = R.height i; plan_number = R.plan_number i })
 
 abbrev pub height_of : {I : Type 0} → Rules I → I → Result ℕ Refusal
 height_of R i = answered (item_refusal (R.outside i)) (R.height i)

@@ -1,9 +1,9 @@
 ghost use Rattle.std.specs.Prelude.{◌≡◌, ◌^◌, ◌<◌, length, None};
-ghost use Rattle.rulebook.specs.Books.{Rules, within, passes, verdict_of, height_of, plan_number_of};
+ghost use Rattle.rulebook.specs.Books.{Rules, within, passes, verdict_of, size_of, height_of, plan_number_of};
 ghost use Rattle.rulebook.specs.Verdicts.{passing, numbered_0};
 ghost use Rattle.rulebook.specs.declared.case.Case.{Case};
 
-use super::{Case, Refusal, Verdict};
+use super::{Case, Refusal, Size, Verdict};
 
 // A rule book: its kind of item, its articles, and what it says of an item under a case. `rules` is its meaning, and every answer is the
 // one that the meaning gives, so that asking twice gives the same.
@@ -38,11 +38,20 @@ pub trait RuleBook {
     fn verdict(&self, item: &Self::Item, case: &Case) -> Result<Verdict, Refusal>
         ensures { result ≡ verdict_of (rules self.now) item.now case.now };
 
+    fn size(&self, item: &Self::Item) -> Result<Size, Refusal>
+        ensures { result ≡ size_of (rules self.now) item.now };
+
     fn height(&self, item: &Self::Item) -> Result<u32, Refusal>
-        ensures { result ≡ height_of (rules self.now) item.now };
+        ensures { result ≡ height_of (rules self.now) item.now }
+    {
+        Ok(self.size(item)?.height)
+    }
 
     fn plan_number(&self, item: &Self::Item) -> Result<u32, Refusal>
-        ensures { result ≡ plan_number_of (rules self.now) item.now };
+        ensures { result ≡ plan_number_of (rules self.now) item.now }
+    {
+        Ok(self.size(item)?.plan_number)
+    }
 
     ghost counted: { (b : Self) (i : Self.Item) (c : Case) → length ((rules b).articles i c) ≡ (rules b).count };
 

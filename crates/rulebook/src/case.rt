@@ -12,6 +12,7 @@ pub struct Case {
     // about the transverse axis and about the longitudinal axis, in ten-thousandths of a radian
     pub rotation_x: u16,
     pub rotation_z: u16,
+    // The two marks are numbers, as a user may enter any, and one above 1 is refused.
     // 1 where the deck is free to translate, else 0
     pub deck: u8,
     // 1 where the bearing deforms in shear, 0 where it is fixed against that

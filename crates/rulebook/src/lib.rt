@@ -5,10 +5,12 @@
 mod book;
 mod case;
 mod refusal;
+mod size;
 mod texts;
 mod verdict;
 
 pub use book::{RuleBook, item_passes};
 pub use case::Case;
 pub use refusal::{Refusal, admit, measure};
+pub use size::Size;
 pub use verdict::Verdict;

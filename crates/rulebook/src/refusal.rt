@@ -2,12 +2,12 @@ ghost use Rattle.rulebook.specs.Books.{refusal_of, item_refusal, answered};
 ghost use Rattle.rulebook.specs.Refusals.{number_of};
 ghost use Rattle.std.specs.Prelude.{◌≡◌};
 
-use super::Case;
+use super::{Case, Size};
 
 // Why a call of a book or of a shelf is refused. Each case has a number of its own, by which users know it.
 #[derive(Clone, Copy, PartialEq, Eq, Debug)]
 pub enum Refusal {
-    // 2: the item lies outside its limits; `field` is the first field that does, counted from 1 in the item's own order
+    // 2: the item lies outside its limits; `field` is the first field that does, by its number from 1, since each kind of item has fields of its own
     Item { field: u8 },
     // 4: the place is off the shelf
     OffShelf,
@@ -26,6 +26,7 @@ pub enum Refusal {
 }
 
 impl Refusal {
+    // Not as discriminants, since a case holds a value; nor by `From`, as `why.number()` says which number is meant.
     pub fn number(&self) -> u8
         ensures { result ≡ number_of self.now }
     {
@@ -58,12 +59,13 @@ pub fn admit(outside: Option<u8>, case: &Case) -> Result<(), Refusal>
     Ok(())
 }
 
-// A measure of an item whose first field outside its limits is `outside`, which is refused where there is one.
-pub fn measure(outside: Option<u8>, value: u32) -> Result<u32, Refusal>
-    ensures { result ≡ answered (item_refusal outside) value }
+// The size of an item whose first field outside its limits is `outside`, which is refused where there is one.
+pub fn measure(outside: Option<u8>, size: Size) -> Result<Size, Refusal>
+    ensures { result ≡ answered (item_refusal outside) size }
 {
+    // no method of Option turns its value into the error more plainly
     match outside {
         Some(field) => Err(Refusal::Item { field }),
-        None => Ok(value),
+        None => Ok(size),
     }
 }

@@ -1,12 +1,12 @@
 ghost use Rattle.rulebook.specs.Verdicts.{verdict_number};
 ghost use Rattle.std.specs.Prelude.{◌≡◌};
 
-// What a book says of an item under a case.
+// What a book says of an item under a case. As an Option it would say `Some(3)` of an item that fails and `None` of one that passes, which reads the wrong way.
 #[derive(Clone, Copy, PartialEq, Eq, Debug)]
 pub enum Verdict {
     // every article holds
     Passes,
-    // the first article that does not hold
+    // the first article that does not hold, by its number, since each book has articles of its own
     Fails { article: u8 },
 }
 

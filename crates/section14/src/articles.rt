@@ -1,8 +1,8 @@
-ghost use Rattle.std.specs.Prelude.{◌≡◌, ◌+◌, ◌*◌, ◌≤◌};
+ghost use Rattle.std.specs.Prelude.{◌≡◌, ◌*◌, ◌≤◌};
 ghost use Rattle.bearings.specs.Fractions.{holds, all_hold};
-ghost use Rattle.section14.specs.Articles.{deforms_in_shear, stress_within, compression, shear, uplift, uplift_on, rotation, rotation_on, steel_total, steel_live, steel};
+ghost use Rattle.section14.specs.Articles.{deforms_in_shear, compression, shear, uplift, uplift_on, rotation, rotation_on, steel_total, steel_live, steel};
 ghost use Rattle.section14.specs.Axes.{axis};
-ghost use Rattle.section14.specs.Cleared.{row_place, RowOf, compression_limits, layer_squares, stress_within_hundredths_GS};
+ghost use Rattle.section14.specs.Cleared.{row_place, RowOf, compression_limits, layer_squares};
 ghost use Rattle.rulebook.specs.Cases.{load};
 
 use super::coefficients::{CompressionLimits, ROWS, Row};
@@ -15,6 +15,7 @@ fn deforms_in_shear(case: &Case) -> bool
     case.shear == 1
 }
 
+// The coefficients stand in one table of four rows, which this is an index of.
 fn place_of_row(plan: &Plan, case: &Case) -> usize
     ensures { result ≡ row_place plan.now (deforms_in_shear case.now) }
 {

@@ -13,13 +13,14 @@ ghost use Rattle.bearings.proofs.Sizes.{height_fits, plan_fits};
 use super::articles::{compression_holds, rotation_holds, shear_holds, steel_holds, uplift_holds};
 use bearings::{Admitted, Bearing, Elastomeric};
 use buckling::buckling_holds;
-use rulebook::{Case, Refusal, RuleBook, Verdict, measure};
+use rulebook::{Case, Refusal, RuleBook, Size, Verdict, measure};
 
 // The book for laminated bearings. It has no state: its rules are the same wherever it is used.
 #[derive(Clone, Copy)]
 pub struct Section14;
 
-// The first article that does not hold decides, and those behind it are not looked at.
+// The first article that does not hold decides, and those behind it are not looked at: a list of articles would ask for the value of each. The pad book has other
+// articles in this form.
 #[tactic(auto, unfolding(crate::specs::Book::section14_articles))]
 fn verdict_of(admitted: &Admitted<Bearing>) -> Verdict
     ensures { result ≡ verdict_by (first_failing (section14_articles admitted.now.item admitted.now.case)) }
@@ -55,7 +56,8 @@ fn articles_of(admitted: &Admitted<Bearing>) -> [bool; 6]
     ]
 }
 
-// Whether each article holds, for a reader who wants to know why a verdict came out as it did.
+// Whether each article holds, for a reader who wants to know why a verdict came out as it did. It is written for each book: that every side is a number is
+// proved from the book's own articles, and the impl of a trait can't cite a lemma of its own crate.
 pub fn article_list(bearing: &Bearing, case: &Case) -> Result<[bool; 6], Refusal>
     ensures is { result ≡ answered (refusal_of (bearing_outside bearing.now) case.now) (section14_articles bearing.now case.now) }
     ensures proper { bearing_outside bearing.now ≡ None → EveryProper (section14_comparisons bearing.now case.now) }
@@ -97,11 +99,11 @@ impl RuleBook for Section14 {
         Ok(verdict_of(&admitted))
     }
 
-    fn height(&self, item: &Bearing) -> Result<u32, Refusal> {
-        measure(self.first_outside(item), item.height())
-    }
-
-    fn plan_number(&self, item: &Bearing) -> Result<u32, Refusal> {
-        measure(self.first_outside(item), item.plan.number())
+    fn size(&self, item: &Bearing) -> Result<Size, Refusal> {
+        let size = Size {
+            height: item.height(),
+            plan_number: item.plan.number(),
+        };
+        measure(self.first_outside(item), size)
     }
 }

@@ -5,7 +5,7 @@ ghost use Rattle.std.proofs.Math.Nat.{lt_of_le_of_lt};
 ghost use Rattle.std.proofs.lemmas.Bool.{leb-true};
 ghost use Rattle.std.specs.Prelude.{nat_le};
 
-use rulebook::{Case, Refusal, RuleBook, Verdict, admit, measure};
+use rulebook::{Case, Refusal, RuleBook, Size, Verdict, admit, measure};
 
 // An item of no bridge: a block with a height and a tag, to show that shelves and the search are tied to no kind of item.
 #[derive(Clone, Copy, PartialEq, Eq, Debug)]
@@ -65,11 +65,11 @@ impl RuleBook for BlockBook {
         Ok(Verdict::Passes)
     }
 
-    fn height(&self, item: &Block) -> Result<u32, Refusal> {
-        measure(self.first_outside(item), item.height as u32)
-    }
-
-    fn plan_number(&self, item: &Block) -> Result<u32, Refusal> {
-        measure(self.first_outside(item), item.tag as u32)
+    fn size(&self, item: &Block) -> Result<Size, Refusal> {
+        let size = Size {
+            height: item.height as u32,
+            plan_number: item.tag as u32,
+        };
+        measure(self.first_outside(item), size)
     }
 }

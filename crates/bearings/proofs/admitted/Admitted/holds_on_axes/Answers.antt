@@ -1,19 +1,11 @@
 use Rattle.std.proofs.Common.{sym, ap, ◌∙◌}
 use Rattle.bearings.proofs.Axes.{on_rectangle, on_circle}
-use Rattle.bearings.proofs.admitted.Admitted.holds_on_axes.Goals.{then-test, else-test}
 use Rattle.bearings.proofs.admitted.Admitted.holds_on_axes.Goals as goal
 
 pub returns-in-Rectangle : goal.returns-in-Rectangle
 returns-in-Rectangle g c by known =
-    let so = on_rectangle by _ c.args.self.now.case c.in-Rectangle.length c.in-Rectangle.width (sym c.plan.ensures ∙ c.in-Rectangle.is) in
-    elim c.if-test.branch [
-      | then-test w ↦
-          let first = sym (known _ c.test.result c.test.ensures) ∙ w.if-test.true in
-          w.result-is ∙ known _ w.test-then-test.result w.test-then-test.ensures ∙ (rw first at so)
-      | else-test w ↦
-          let first = sym (known _ c.test.result c.test.ensures) ∙ w.if-test.false in
-          w.result-is ∙ w.if-test.false ∙ (rw first at so)
-    ]
+    simp (known _ c.test.result c.test.ensures, known _ c.test-in-Rectangle.result c.test-in-Rectangle.ensures)
+    (on_rectangle by _ c.args.self.now.case c.in-Rectangle.length c.in-Rectangle.width (sym c.plan.ensures ∙ c.in-Rectangle.is))
 
 pub returns : goal.returns
 returns g c by known =
