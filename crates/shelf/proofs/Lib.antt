@@ -1,3 +1,3 @@
 pub mod Standing
 pub mod Stepping
-pub mod Granted
+pub mod Named

@@ -1,21 +1,17 @@
 -- A change of one place's counts is the step that the call's contract states.
-use Rattle.std.proofs.Common.{◌≡◌, ℕ, ◌+◌, ◌-◌, Bool, true, false, cond, ◌||◌, eqb, ltb, ◌≢◌, ◌⊎◌, length, Some, None, Ok, Err, Option, Result, sym, refl, ap, ◌∙◌, subst, ap₂, inl, inr, arith}
+use Rattle.std.proofs.Common.{◌≡◌, ℕ, length, Some, None, Ok, Option, Result, ok_or, sym, refl, ◌∙◌, ap₂, inl, inr, arith}
 use Rattle.std.proofs.lemmas.List.{length-map}
-use Rattle.std.proofs.lemmas.Bool.{eqb-true, eqb-false, ltb-true, ltb-false, or_cases, or_parts}
 use Rattle.std.specs.List.{slice_get}
 use Rattle.rulebook.specs.declared.refusal.Refusal.{Refusal}
-use Rattle.rulebook.specs.declared.refusal.Refusal.TheVariants.{Receipt, NoneOnHand, NoneOut}
+use Rattle.rulebook.specs.declared.refusal.Refusal.TheVariants.{OffShelf}
 use Rattle.shelf.proofs.Standing.{nth_within, nth_off, nth_map, get_or_nth}
-use Rattle.shelf.specs.Answers.{done, shown, Off, SlipEnds}
-use Rattle.shelf.specs.Calls.{receives, orders, returns, asks_place, asks_places}
-use Rattle.shelf.specs.Changes.{off_shelf, counts_after, place_seen, place_after, ChangedTo, Changed}
-use Rattle.shelf.specs.Steps.{Step, Takes, moved, where_done, Movement, order, return}
-use Rattle.shelf.specs.Stock.{Stock, layout, on_hand, out, with_counts}
-use Rattle.shelf.specs.declared.answer.Answer.TheVariants.{Shown, Counted}
+use Rattle.shelf.specs.Answers.{shown, Off}
+use Rattle.shelf.specs.Calls.{asks_place, asks_places}
+use Rattle.shelf.specs.Steps.{Step}
+use Rattle.shelf.specs.Stock.{Stock, layout, on_hand, out}
+use Rattle.shelf.specs.declared.answer.Granted.TheVariants.{Shown, Counted}
 use Rattle.shelf.specs.declared.answer.Place.{Place}
 use Rattle.shelf.specs.declared.answer.Places.{Places}
-use Rattle.shelf.specs.declared.changes.Change.{Change}
-use Rattle.shelf.specs.declared.changes.Change.TheVariants.{Receive, Take, Order, GiveBack}
 
 module _ {I : Type 0} (s : Stock I) (k : ℕ) where
   pub place_off : slice_get s.places k ≡ None → Off (layout s) k
@@ -30,91 +26,16 @@ module _ {I : Type 0} (s : Stock I) (k : ℕ) where
   pub out_is : (p : Place I) → slice_get s.places k ≡ Some p → out s k ≡ p.out
   out_is p e = get_or_nth (λ (p : Place I). p.out) s.places k p e
 
-  pub question_step : (r : Result (Place I) Refusal) → r ≡ place_seen (slice_get s.places k) → Step s (asks_place k) (shown r) s
+  pub question_step : (r : Result (Place I) Refusal) → r ≡ ok_or (slice_get s.places k) OffShelf → Step s (asks_place k) (shown r) s
   question_step r e = rw e (seen (slice_get s.places k) refl)
     where
-      seen : (o : Option (Place I)) → slice_get s.places k ≡ o → Step s (asks_place k) (shown (place_seen o)) s
+      seen : (o : Option (Place I)) → slice_get s.places k ≡ o → Step s (asks_place k) (shown (ok_or o OffShelf)) s
       seen None e = record { right = inl (place_off e, refl); change = refl }
       seen (Some p) e = record {
-        right = inr (place_on p e, (p.item, nth_map (λ (p : Place I). p.item) s.places k p e, ap₂ (λ (h o : ℕ). Shown (record { item = p.item; on_hand = h; out = o })) (sym (hand_is p e)) (sym (out_is p e))));
+        right = inr (place_on p e, (p.item, nth_map (λ (p : Place I). p.item) s.places k p e, ap₂ (λ (h o : ℕ). Ok (Shown (record { item = p.item; on_hand = h; out = o }))) (sym (hand_is p e)) (sym (out_is p e))));
         change = refl;
       }
 
-pub places_step : {I : Type 0} (s : Stock I) (r : Places) → r.count ≡ length s.places → r.number ≡ s.number → Step s asks_places (Counted r) s
+pub places_step : {I : Type 0} (s : Stock I) (r : Places) → r.count ≡ length s.places → r.number ≡ s.number → Step s asks_places (Ok (Counted r)) s
 places_step {I} s r count number =
-    record { right = ap₂ (λ (n m : ℕ). Counted (record { count = n; number = m })) (count ∙ sym (length-map s.places (λ (p : Place I). p.item))) number; change = refl }
-
-module _ {I T : Type 0} (s s' : Stock I) (k : ℕ) where
-  -- refused off the shelf, else changed by the counts at the place
-  Either : Change → Result T Refusal → Type 0
-  Either change r =
-      (Off (layout s) k × (r ≡ Err (off_shelf change)) × (s' ≡ s))
-      ⊎ ((Off (layout s) k → ⊥) × ChangedTo (counts_after change (on_hand s k) (out s k)) k s r s')
-
-  either_at : (change : Change) (r : Result T Refusal) (o : Option (Place I)) → slice_get s.places k ≡ o → ChangedTo (place_after change o) k s r s' → Either change r
-  unfolding Either
-  either_at change (Ok x) None e h = absurd h
-  either_at change (Err why) None e h = inl (place_off s k e, ap Err h.0, h.1)
-  either_at change r (Some p) e h =
-      inr (place_on s k p e, subst (λ (c : Result (ℕ × ℕ) Refusal). ChangedTo c k s r s') (ap₂ (counts_after change) (sym (hand_is s k p e)) (sym (out_is s k p e))) h)
-
-  either : (change : Change) (r : Result T Refusal) → Changed change k s r s' → Either change r
-  either change r h = either_at change r (slice_get s.places k) refl h
-
-  -- a change that a test refuses
-  tested : (b : Bool) (why : Refusal) (hand gone : ℕ) (r : Result T Refusal) → ChangedTo (cond b (Err why) (Ok (hand, gone))) k s r s'
-      → ((b ≡ true) × (r ≡ Err why) × (s' ≡ s)) ⊎ ((b ≡ false) × ((x : T) × (r ≡ Ok x)) × (s' ≡ with_counts s k hand gone))
-  tested true why hand gone (Ok x) h = absurd h
-  tested true why hand gone (Err reason) h = inl (refl, ap Err h.0, h.1)
-  tested false why hand gone (Ok x) h = inr (refl, (x, refl), h)
-  tested false why hand gone (Err reason) h = absurd h
-
-  module _ (n : ℕ) (r : Result T Refusal) where
-    pub receive_step : Changed (Receive n) k s r s' → Step s (receives k n) (done r) s'
-    unfolding Either
-    receive_step h = elim (either (Receive n) r h) [
-      | inl off ↦ rw off.1 (record { right = inl (off.0, refl); change = off.2 })
-      | inr (on, h) ↦ elim (tested (eqb n 0 || ltb 60000 (on_hand s k + out s k + n)) Receipt (on_hand s k + n) (out s k) r h) [
-        | inl (b, e, same) ↦ rw e (record {
-          right = inr (on, inl (elim (or_cases (eqb n 0) _ b) [ inl z ↦ inl (eqb-true n 0 z) | inr l ↦ inr (ltb-true 60000 _ l) ], refl));
-          change = same;
-        })
-        | inr (b, (x, e), is) ↦ let parts = or_parts (eqb n 0) _ b in rw e (record {
-          right = inr (on, inr ((λ g. elim g [ inl z ↦ eqb-false n 0 parts.0 z | inr l ↦ let m = ltb-false 60000 _ parts.1 in omega arith ]), refl));
-          change = is;
-        })
-      ]
-    ]
-
-  module _ (r : Result T Refusal) where
-    pub take_step : Changed Take k s r s' → Takes k s (done r) s'
-    unfolding Either
-    take_step h = elim (either Take r h) [
-      | inl off ↦ rw off.1 (record { right = inl (off.0, refl); change = off.2 })
-      | inr (on, h) ↦ elim (tested (eqb (on_hand s k) 0) NoneOnHand (on_hand s k - 1) (out s k + 1) r h) [
-        | inl (b, e, same) ↦ rw e (record { right = inr (on, inl (eqb-true (on_hand s k) 0 b, refl)); change = same })
-        | inr (b, (x, e), is) ↦ rw e (record { right = inr (on, inr (eqb-false (on_hand s k) 0 b, refl)); change = is })
-      ]
-    ]
-
-    -- the end of a slip of this shelf
-    ends : (number : ℕ) → number ≡ s.number → (change : Change) (hand : ℕ) (m : Movement) → off_shelf change ≡ NoneOut → counts_after change (on_hand s k) (out s k) ≡ cond (eqb (out s k) 0) (Err NoneOut) (Ok (hand, out s k - 1))
-        → moved s m ≡ with_counts s k hand (out s k - 1) → Changed change k s r s' → SlipEnds (layout s) (out s) number k (done r) × (s' ≡ moved s (where_done {I = I} (done r) m))
-    unfolding Either
-    ends number same change hand m off after to h =
-        let own : number ≢ s.number → ⊥ = λ ne. ne same in
-        elim (either change r h) [
-          | inl gone ↦ let e = gone.1 ∙ ap Err off in rw e (inr (own, inl (inl gone.0, refl)), gone.2)
-          | inr (on, h) ↦
-              let h' = subst (λ (c : Result (ℕ × ℕ) Refusal). ChangedTo c k s r s') after h in
-              elim (tested (eqb (out s k) 0) NoneOut hand (out s k - 1) r h') [
-                | inl (b, e, as_was) ↦ rw e (inr (own, inl (inr (eqb-true (out s k) 0 b), refl)), as_was)
-                | inr (b, (x, e), is) ↦ rw e (inr (own, inr ((λ g. elim g [ inl o ↦ on o | inr z ↦ eqb-false (out s k) 0 b z ]), refl)), is ∙ sym to)
-              ]
-        ]
-
-    pub order_step : (number : ℕ) → number ≡ s.number → Changed Order k s r s' → Step s (orders number k) (done r) s'
-    order_step number same h = let e = ends number same Order (on_hand s k) (order k) refl refl refl h in record { right = e.0; change = e.1 }
-
-    pub return_step : (number : ℕ) → number ≡ s.number → Changed GiveBack k s r s' → Step s (returns number k) (done r) s'
-    return_step number same h = let e = ends number same GiveBack (on_hand s k + 1) (return k) refl refl refl h in record { right = e.0; change = e.1 }
+    record { right = ap₂ (λ (n m : ℕ). Ok (Counted (record { count = n; number = m }))) (count ∙ sym (length-map s.places (λ (p : Place I). p.item))) number; change = refl }

@@ -27,11 +27,6 @@ abbrev pub numbers : Result Counts Refusal → Result (ℕ × ℕ) Refusal
 numbers (Ok counts) = Ok (counts.on_hand, counts.out)
 numbers (Err why) = Err why
 
--- what a question about a place answers
-abbrev pub place_seen : {I : Type 0} → Option (Place I) → Result (Place I) Refusal
-place_seen None = Err OffShelf
-place_seen (Some p) = Ok p
-
 abbrev pub place_after : {I : Type 0} → Change → Option (Place I) → Result (ℕ × ℕ) Refusal
 place_after change None = Err (off_shelf change)
 place_after change (Some p) = counts_after change p.on_hand p.out

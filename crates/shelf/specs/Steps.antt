@@ -1,11 +1,10 @@
 -- What a call with its answer does to a shelf.
-use Rattle.std.specs.Prelude.{◌≡◌, ℕ, ◌+◌, ◌-◌}
+use Rattle.std.specs.Prelude.{◌≡◌, ℕ, ◌+◌, ◌-◌, Ok, Err}
 use Rattle.rulebook.specs.declared.refusal.Refusal.TheVariants.{OffShelf, NoneOnHand}
-use Rattle.shelf.specs.Answers.{Right, Off, Refuses}
+use Rattle.shelf.specs.Answers.{Answer, Right, Off, Refuses}
 use Rattle.shelf.specs.Calls.{Call, receives, picks, orders, returns, asks_place, asks_places}
 use Rattle.shelf.specs.Stock.{Stock, layout, on_hand, out, with_counts}
-use Rattle.shelf.specs.declared.answer.Answer.{Answer}
-use Rattle.shelf.specs.declared.answer.Answer.TheVariants.{Refused, Done, Picked, Shown, Counted}
+use Rattle.shelf.specs.declared.answer.Granted.TheVariants.{Done, Picked, Shown, Counted}
 
 -- what an answered call moves: something at one place, or nothing
 pub data Movement : Type 0 where
@@ -16,18 +15,18 @@ pub data Movement : Type 0 where
   nothing : Movement
 
 abbrev pub where_done : {I : Type 0} → Answer I → Movement → Movement
-where_done Done movement = movement
-where_done (Refused why) movement = nothing
-where_done (Picked number place) movement = nothing
-where_done (Shown place) movement = nothing
-where_done (Counted places) movement = nothing
+where_done (Ok Done) movement = movement
+where_done (Err why) movement = nothing
+where_done (Ok (Picked number place)) movement = nothing
+where_done (Ok (Shown place)) movement = nothing
+where_done (Ok (Counted places)) movement = nothing
 
 abbrev pub where_picked : {I : Type 0} → Answer I → Movement
-where_picked (Picked number place) = pick place
-where_picked Done = nothing
-where_picked (Refused why) = nothing
-where_picked (Shown place) = nothing
-where_picked (Counted places) = nothing
+where_picked (Ok (Picked number place)) = pick place
+where_picked (Ok Done) = nothing
+where_picked (Err why) = nothing
+where_picked (Ok (Shown place)) = nothing
+where_picked (Ok (Counted places)) = nothing
 
 -- a granted receipt, pick, order or return moves something at its own place; a refused call and a question move nothing
 abbrev pub movement : {I : Type 0} → Call I → Answer I → Movement
@@ -53,5 +52,5 @@ pub record Step {I : Type 0} (s : Stock I) (call : Call I) (answer : Answer I) (
 
 -- the taking of one at the place k
 pub record Takes {I : Type 0} (k : ℕ) (s : Stock I) (answer : Answer I) (s' : Stock I) : Type 0 where
-  pub right : Refuses answer OffShelf (Off (layout s) k) (Refuses answer NoneOnHand (on_hand s k ≡ 0) (answer ≡ Done))
+  pub right : Refuses answer OffShelf (Off (layout s) k) (Refuses answer NoneOnHand (on_hand s k ≡ 0) (answer ≡ Ok Done))
   pub change : s' ≡ moved s (where_done answer (pick k))

@@ -15,16 +15,18 @@ pub struct Places {
     pub number: u32,
 }
 
-// What is answered to a call on a shelf.
+// What a call on a shelf answers where it is granted.
 #[derive(Clone, Copy, PartialEq, Eq, Debug)]
-pub enum Answer<I> {
-    Refused(Refusal),
-    // a receipt, an order or a return was granted
+pub enum Granted<I> {
+    // to a receipt, an order or a return
     Done,
-    // a pick was granted: the numbers of the slip
+    // to a pick: the numbers of the slip
     Picked { number: u32, place: usize },
     // to a question about a place
     Shown(Place<I>),
     // to a question about the places
     Counted(Places),
 }
+
+// What is answered to a call on a shelf: what it grants, or why it is refused.
+pub type Answer<I> = Result<Granted<I>, Refusal>;

@@ -9,7 +9,7 @@ mod opening;
 mod request;
 mod shelf;
 
-pub use answer::{Answer, Place, Places};
+pub use answer::{Answer, Granted, Place, Places};
 pub use changes::Change;
 pub use counts::Counts;
 pub use opening::OpeningRefusal;
