@@ -1,7 +1,6 @@
 ghost use Rattle.list_shelf.specs.Slots.{stock_of};
 
 use super::ListShelf;
-use super::slots::{change_slot, place_in};
 use rulebook::Refusal;
 use shelf::{Change, Place, Places, Shelf};
 
@@ -18,28 +17,20 @@ impl<'a, I: Copy> Shelf for ListShelf<'a, I> {
     }
 
     fn place(&self, place: usize) -> Result<Place<I>, Refusal> {
-        place_in(self.slots, place)
+        let slot = self.slots.get(place).ok_or(Refusal::OffShelf)?;
+        Ok(Place {
+            item: slot.item,
+            on_hand: slot.counts.on_hand,
+            out: slot.counts.out,
+        })
     }
 
-    fn receive(&mut self, place: usize, count: u32) -> Result<(), Refusal> {
-        change_slot(self.slots, place, Change::Receive(count))
-    }
-
-    fn take(&mut self, place: usize) -> Result<(), Refusal> {
-        change_slot(self.slots, place, Change::Take)
-    }
-
-    fn order(&mut self, number: u32, place: usize) -> Result<(), Refusal> {
-        if number != self.number {
-            return Err(Refusal::OtherShelf);
-        }
-        change_slot(self.slots, place, Change::Order)
-    }
-
-    fn give_back(&mut self, number: u32, place: usize) -> Result<(), Refusal> {
-        if number != self.number {
-            return Err(Refusal::OtherShelf);
-        }
-        change_slot(self.slots, place, Change::GiveBack)
+    fn change(&mut self, place: usize, change: Change) -> Result<(), Refusal> {
+        let slots = &mut *self.slots;
+        let slot = slots.get(place).ok_or(change.off_shelf())?;
+        let counts = slot.counts.after(change)?;
+        // by its index: what is written through a slice's `get_mut` is not known afterwards
+        slots[place].counts = counts;
+        Ok(())
     }
 }

@@ -1,39 +1,7 @@
--- What stands at a place, and what a change of one place's counts leaves and gives.
-use Rattle.std.proofs.Common.{◌≡◌, ℕ, zero, suc, ◌<◌, ◌≤◌, ◌≢◌, List, [], ◌∷◌, map, length, get_or, Some, None, refl, ap, le_of_suc-le-suc, not-suc-le-zero, arith}
-use Rattle.std.specs.List.{slice_get}
+-- What a change of one place's counts leaves and gives.
+use Rattle.std.proofs.Common.{◌≡◌, ℕ, zero, suc, ◌<◌, ◌≢◌, List, [], ◌∷◌, map, length, get_or, refl, ap, le_of_suc-le-suc, not-suc-le-zero}
 use Rattle.shelf.specs.Stock.{items_of, recounted}
 use Rattle.shelf.specs.declared.answer.Place.{Place}
-
-pub some_is : {X : Type 0} {x y : X} → Some x ≡ Some y → x ≡ y
-some_is e = cc
-
-pub not_none : {X A : Type 0} {x : X} → Some x ≡ None → A
-not_none {x = x} e = let z : ◌≡◌ {A = ℕ} 0 1 = cc in absurd (omega arith)
-
-pub nth_within : {X : Type 0} (xs : List X) (k : ℕ) (x : X) → slice_get xs k ≡ Some x → k < length xs
-nth_within [] k x e = let z : ◌≡◌ {A = ℕ} 0 1 = cc in omega arith
-nth_within (y ∷ ys) zero x e = omega arith
-nth_within (y ∷ ys) (suc k) x e = let h = nth_within ys k x e in omega arith
-
-pub nth_off : {X : Type 0} (xs : List X) (k : ℕ) → slice_get xs k ≡ None → length xs ≤ k
-nth_off [] k e = omega arith
-nth_off (y ∷ ys) zero e = let z : ◌≡◌ {A = ℕ} 0 1 = cc in omega arith
-nth_off (y ∷ ys) (suc k) e = let h = nth_off ys k e in omega arith
-
-pub nth_map : {X Y : Type 0} (f : X → Y) (xs : List X) (k : ℕ) (x : X) → slice_get xs k ≡ Some x → slice_get (map f xs) k ≡ Some (f x)
-nth_map f [] k x e = let z : ◌≡◌ {A = ℕ} 0 1 = cc in absurd (omega arith)
-nth_map f (y ∷ ys) zero x e = ap (λ z. Some (f z)) (some_is e)
-nth_map f (y ∷ ys) (suc k) x e = nth_map f ys k x e
-
-pub nth_map_none : {X Y : Type 0} (f : X → Y) (xs : List X) (k : ℕ) → slice_get xs k ≡ None → slice_get (map f xs) k ≡ None
-nth_map_none f [] k e = refl
-nth_map_none f (y ∷ ys) zero e = not_none e
-nth_map_none f (y ∷ ys) (suc k) e = nth_map_none f ys k e
-
-pub get_or_nth : {X : Type 0} (f : X → ℕ) (xs : List X) (k : ℕ) (x : X) → slice_get xs k ≡ Some x → get_or (map f xs) k 0 ≡ f x
-get_or_nth f [] k x e = let z : ◌≡◌ {A = ℕ} 0 1 = cc in absurd (omega arith)
-get_or_nth f (y ∷ ys) zero x e = ap f (some_is e)
-get_or_nth f (y ∷ ys) (suc k) x e = get_or_nth f ys k x e
 
 module _ {I : Type 0} where
   pub items_recounted : (ps : List (Place I)) (k h o : ℕ) → items_of (recounted ps k h o) ≡ items_of ps

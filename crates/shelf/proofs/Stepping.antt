@@ -1,41 +1,35 @@
--- A change of one place's counts is the step that the call's contract states.
-use Rattle.std.proofs.Common.{◌≡◌, ℕ, length, Some, None, Ok, Option, Result, ok_or, sym, refl, ◌∙◌, ap₂, inl, inr, arith}
+-- What stands at a place is shown, and a change that it allows is made there.
+use Rattle.std.proofs.Common.{◌≡◌, ℕ, map, Some, Ok, sym, refl, ap, ◌∙◌, ap₂, inr, arith}
 use Rattle.std.proofs.lemmas.List.{length-map}
+use Rattle.std.proofs.lemmas.Option.{slice_get-map, slice_get_within, get_or_from_slice_get}
 use Rattle.std.specs.List.{slice_get}
-use Rattle.rulebook.specs.declared.refusal.Refusal.{Refusal}
-use Rattle.rulebook.specs.declared.refusal.Refusal.TheVariants.{OffShelf}
-use Rattle.shelf.proofs.Standing.{nth_within, nth_off, nth_map, get_or_nth}
-use Rattle.shelf.specs.Answers.{shown, Off}
-use Rattle.shelf.specs.Calls.{asks_place, asks_places}
+use Rattle.std.specs.Option.{option_map}
+use Rattle.shelf.specs.Answers.{Off}
+use Rattle.shelf.specs.Calls.{asks_place}
+use Rattle.shelf.specs.Changes.{counts_after, Changed}
 use Rattle.shelf.specs.Steps.{Step}
-use Rattle.shelf.specs.Stock.{Stock, layout, on_hand, out}
-use Rattle.shelf.specs.declared.answer.Granted.TheVariants.{Shown, Counted}
+use Rattle.shelf.specs.Stock.{Stock, layout, with_counts}
+use Rattle.shelf.specs.declared.answer.Granted.TheVariants.{Shown}
 use Rattle.shelf.specs.declared.answer.Place.{Place}
-use Rattle.shelf.specs.declared.answer.Places.{Places}
+use Rattle.shelf.specs.declared.changes.Change.{Change}
+use Rattle.shelf.specs.declared.counts.Counts.{Counts}
 
-module _ {I : Type 0} (s : Stock I) (k : ℕ) where
-  pub place_off : slice_get s.places k ≡ None → Off (layout s) k
-  place_off e = let h = nth_off s.places k e in let n = length-map s.places (λ (p : Place I). p.item) in omega arith
+module _ {I : Type 0} (s : Stock I) (k : ℕ) (p : Place I) (there : slice_get s.places k ≡ Some p) where
+  on : Off (layout s) k → ⊥
+  on off = let w = slice_get_within s.places k p there in let n = length-map s.places (λ (p : Place I). p.item) in omega arith
 
-  pub place_on : (p : Place I) → slice_get s.places k ≡ Some p → Off (layout s) k → ⊥
-  place_on p e off = let h = nth_within s.places k p e in let n = length-map s.places (λ (p : Place I). p.item) in omega arith
+  read : {X : Type 0} (f : Place I → X) → slice_get (map f s.places) k ≡ Some (f p)
+  read f = slice_get-map f s.places k ∙ ap (option_map f) there
 
-  pub hand_is : (p : Place I) → slice_get s.places k ≡ Some p → on_hand s k ≡ p.on_hand
-  hand_is p e = get_or_nth (λ (p : Place I). p.on_hand) s.places k p e
-
-  pub out_is : (p : Place I) → slice_get s.places k ≡ Some p → out s k ≡ p.out
-  out_is p e = get_or_nth (λ (p : Place I). p.out) s.places k p e
-
-  pub question_step : (r : Result (Place I) Refusal) → r ≡ ok_or (slice_get s.places k) OffShelf → Step s (asks_place k) (shown r) s
-  question_step r e = rw e (seen (slice_get s.places k) refl)
-    where
-      seen : (o : Option (Place I)) → slice_get s.places k ≡ o → Step s (asks_place k) (shown (ok_or o OffShelf)) s
-      seen None e = record { right = inl (place_off e, refl); change = refl }
-      seen (Some p) e = record {
-        right = inr (place_on p e, (p.item, nth_map (λ (p : Place I). p.item) s.places k p e, ap₂ (λ (h o : ℕ). Ok (Shown (record { item = p.item; on_hand = h; out = o }))) (sym (hand_is p e)) (sym (out_is p e))));
+  pub shown_step : Step s (asks_place k) (Ok (Shown p)) s
+  shown_step =
+      let hand = get_or_from_slice_get _ k _ 0 (read (λ (p : Place I). p.on_hand)) in
+      let gone = get_or_from_slice_get _ k _ 0 (read (λ (p : Place I). p.out)) in
+      record {
+        right = inr (on, (p.item, read (λ (p : Place I). p.item), ap₂ (λ (h o : ℕ). Ok (Shown (record { item = p.item; on_hand = h; out = o }))) (sym hand) (sym gone)));
         change = refl;
       }
 
-pub places_step : {I : Type 0} (s : Stock I) (r : Places) → r.count ≡ length s.places → r.number ≡ s.number → Step s asks_places (Ok (Counted r)) s
-places_step {I} s r count number =
-    record { right = ap₂ (λ (n m : ℕ). Ok (Counted (record { count = n; number = m }))) (count ∙ sym (length-map s.places (λ (p : Place I). p.item))) number; change = refl }
+  pub changed_so : (change : Change) (counts : Counts) (s' : Stock I) → Ok (counts.on_hand, counts.out) ≡ counts_after change p.on_hand p.out → s' ≡ with_counts s k counts.on_hand counts.out
+      → Changed {T = Unit {0}} change k s (Ok tt) s'
+  changed_so change counts s' is same = rw there (rw (sym is) same)

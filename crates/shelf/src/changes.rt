@@ -4,7 +4,8 @@ ghost use Rattle.std.specs.Prelude.{◌≡◌};
 use super::Counts;
 use rulebook::Refusal;
 
-// What a call does to the counts of one place.
+// What a call does to the counts of one place. It is a value that contracts name, so that one definition serves every shelf; a closure would be known by
+// what it may answer alone.
 #[derive(Clone, Copy)]
 pub enum Change {
     Receive(u32),
@@ -53,30 +54,21 @@ impl Counts {
                 })
             }
             Change::Take => {
-                if on_hand == 0 {
-                    return Err(Refusal::NoneOnHand);
-                }
+                let on_hand = on_hand.checked_sub(1).ok_or(Refusal::NoneOnHand)?;
                 Ok(Counts {
-                    on_hand: on_hand - 1,
+                    on_hand,
                     out: out + 1,
                 })
             }
             Change::Order => {
-                if out == 0 {
-                    return Err(Refusal::NoneOut);
-                }
-                Ok(Counts {
-                    on_hand,
-                    out: out - 1,
-                })
+                let out = out.checked_sub(1).ok_or(Refusal::NoneOut)?;
+                Ok(Counts { on_hand, out })
             }
             Change::GiveBack => {
-                if out == 0 {
-                    return Err(Refusal::NoneOut);
-                }
+                let out = out.checked_sub(1).ok_or(Refusal::NoneOut)?;
                 Ok(Counts {
                     on_hand: on_hand + 1,
-                    out: out - 1,
+                    out,
                 })
             }
         }

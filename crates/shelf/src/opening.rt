@@ -1,4 +1,4 @@
-ghost use Rattle.shelf.specs.OpeningRefusals.{opening_number, opening_reason, opening_text};
+ghost use Rattle.shelf.specs.OpeningRefusals.{opening_number, opening_text};
 ghost use Rattle.std.specs.Prelude.{◌≡◌, Some};
 
 use std::fmt;
@@ -26,15 +26,13 @@ impl OpeningRefusal {
     }
 }
 
-// Why a shelf is not opened, without its number.
-#[derive(Clone, Copy)]
-struct Reason(OpeningRefusal);
-
-impl fmt::Display for Reason {
-    ghost output = { λ reason. Some (opening_reason reason.0) };
+impl fmt::Display for OpeningRefusal {
+    ghost output = { λ refusal. Some (opening_text refusal) };
 
     fn fmt<W: fmt::Write>(&self, f: &mut fmt::Formatter<W>) -> fmt::Result {
-        match self.0 {
+        let number = self.number();
+        write!(f, "refused {number}: ")?;
+        match self {
             OpeningRefusal::ItemCount => write!(f, "no item, or more than 200"),
             OpeningRefusal::Item { place, field } => {
                 write!(
@@ -44,15 +42,5 @@ impl fmt::Display for Reason {
             }
             OpeningRefusal::ShelfNumber => write!(f, "the shelf number is 0"),
         }
-    }
-}
-
-impl fmt::Display for OpeningRefusal {
-    ghost output = { λ refusal. Some (opening_text refusal) };
-
-    fn fmt<W: fmt::Write>(&self, f: &mut fmt::Formatter<W>) -> fmt::Result {
-        let number = self.number();
-        let reason = Reason(*self);
-        write!(f, "refused {number}: {reason}")
     }
 }

@@ -1,5 +1,8 @@
-use Rattle.shelf.proofs.Stepping.{question_step}
+use Rattle.shelf.proofs.Stepping.{shown_step}
+use Rattle.list_shelf.proofs.Table.{stands}
 use Rattle.list_shelf.proofs.list.ListShelfShelf.place.Goals as goal
 
 pub returns : goal.returns
-returns g c = question_step _ _ _ c.place_in.ensures
+returns g c =
+    let read = rw c.in_ok-slot.ensures.ok_part at c.get.ensures.lookup in
+    shown_step _ _ _ (stands c.args.self.now.slots.now c.args.place c.in_ok-slot.slot.now read.3.0 read.1)
