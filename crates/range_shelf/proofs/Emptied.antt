@@ -1,11 +1,12 @@
 -- A range with counts of 0: it is a shelf as opened.
-use Rattle.std.proofs.Common.{◌≡◌, ℕ, zero, suc, ◌+◌, ◌<◌, map, get_or, replicate, None, Option, sym, refl, ◌∙◌, subst, ap₂, arith}
+use Rattle.std.proofs.Common.{◌≡◌, ℕ, zero, suc, ◌+◌, ◌<◌, map, get_or, replicate, None, Option, sym, refl, ap, ◌∙◌, subst, ap₂, arith}
 use Rattle.std.proofs.lemmas.List.{length-map}
+use Rattle.std.proofs.lemmas.Option.{slice_get-map, slice_get_within, same_Some}
 use Rattle.std.specs.List.{range_with_len}
+use Rattle.std.specs.Option.{option_map}
 use Rattle.bearings.specs.Limits.{bearing_outside}
 use Rattle.bearings.specs.declared.bearing.Bearing.{Bearing}
 use Rattle.rulebook.specs.Books.{Rules}
-use Rattle.shelf.proofs.Standing.{some_is, nth_within, nth_map}
 use Rattle.shelf.specs.Opening.{AllWithin, Opened}
 use Rattle.shelf.specs.Stock.{Stock, items_of}
 use Rattle.shelf.specs.declared.answer.Place.{Place}
@@ -35,10 +36,10 @@ items_within b hand gone within k i e =
     let places = range_of b hand gone in
     let n = length-map places (λ (p : Place Bearing). p.item) in
     let m = range_length b hand gone in
-    let on = nth_within (items_of places) k i e in
+    let on = slice_get_within (items_of places) k i e in
     let lt : k < b.layers = omega arith in
-    let here = nth_map (λ (p : Place Bearing). p.item) places k (range_place b hand gone k) (range_at b hand gone k lt) in
-    subst (λ (x : Bearing). bearing_outside x ≡ None) (some_is (sym here ∙ e)) (fewer_within b within (k + 1) (omega arith) (omega arith))
+    let here = slice_get-map (λ (p : Place Bearing). p.item) places k ∙ ap (option_map (λ (p : Place Bearing). p.item)) (range_at b hand gone k lt) in
+    subst (λ (x : Bearing). bearing_outside x ≡ None) (same_Some _ _ (sym here ∙ e)) (fewer_within b within (k + 1) (omega arith) (omega arith))
 
 pub opened_by : (R : Rules Bearing) → R.outside ≡ bearing_outside → (number : ℕ) (b : Bearing) → RangeOpenable number b → (s : Stock Bearing) → s ≡ record { number = number; places = range_of b (λ _. 0) (λ _. 0) } → Opened R s
 opened_by R limits number b may s is =

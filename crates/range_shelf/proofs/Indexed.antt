@@ -1,17 +1,16 @@
 -- The places of a range: read, and changed at one place.
-use Rattle.std.proofs.Common.{◌≡◌, ℕ, zero, suc, ◌+◌, ◌<◌, ◌≤◌, ◌≢◌, List, ◌∷◌, map, length, get_or, set, Some, None, Ok, Err, sym, refl, ap, ◌∙◌, subst, ap₂, arith}
+use Rattle.std.proofs.Common.{◌≡◌, ℕ, zero, suc, ◌+◌, ◌<◌, ◌≤◌, ◌≢◌, List, ◌∷◌, map, length, get_or, take, set, Some, None, Option, Bor, sym, refl, ap, ◌∙◌, subst, ap₂, arith}
 use Rattle.std.proofs.lemmas.List.FromFn.{length-map-range_with_len, get_or-map-range_with_len}
-use Rattle.std.proofs.lemmas.List.{length-map, map-set, get_or-map, get_or-set_same, get_or-set_other}
+use Rattle.std.proofs.lemmas.List.{length-map, length-take-le, get_or-take, map-set, get_or-map, get_or-set_same, get_or-set_other}
 use Rattle.std.proofs.lemmas.Option.{slice_get-get_or, slice_get_past}
 use Rattle.std.specs.List.{slice_get, range_with_len}
+use Rattle.std.specs.Option.{option_map, option_copied}
+use Rattle.std.specs.Slice.{IsItemAt}
 use Rattle.bearings.specs.declared.bearing.Bearing.{Bearing}
-use Rattle.rulebook.specs.declared.refusal.Refusal.{Refusal}
-use Rattle.shelf.specs.Changes.{off_shelf, counts_after, Changed}
-use Rattle.shelf.specs.Stock.{Stock, recounted}
+use Rattle.shelf.specs.Stock.{recounted}
 use Rattle.shelf.specs.declared.answer.Place.{Place}
-use Rattle.shelf.specs.declared.changes.Change.{Change}
 use Rattle.shelf.specs.declared.counts.Counts.{Counts}
-use Rattle.range_shelf.specs.Range.{layered, range_place, range_of, hand_at, gone_at, range_places}
+use Rattle.range_shelf.specs.Range.{layered, with_layers, range_place, range_of, hand_at, gone_at, range_places}
 
 module _ (b : Bearing) (hand gone : ℕ → ℕ) where
   pub range_length : length (range_of b hand gone) ≡ b.layers
@@ -28,10 +27,22 @@ module _ (b : Bearing) (hand gone : ℕ → ℕ) where
 
 -- the place k, by the counts that are read there
 pub place_read : (b : Bearing) (counts : List Counts) (k : ℕ) (d : Counts) → k < b.layers → k < length counts
-    → slice_get (range_places b counts) k ≡ Some (record { item = layered b (k + 1); on_hand = (get_or counts k d).on_hand; out = (get_or counts k d).out })
+    → slice_get (range_places b counts) k ≡ Some (with_layers b k (get_or counts k d))
 place_read b counts k d lt stored =
     range_at b (hand_at counts) (gone_at counts) k lt
     ∙ ap₂ (λ (h o : ℕ). Some (record { item = layered b (k + 1); on_hand = h; out = o })) (get_or-map (λ (c : Counts). c.on_hand) counts k d 0 stored) (get_or-map (λ (c : Counts). c.out) counts k d 0 stored)
+
+-- the same, by the counts that are found among those of the places
+pub place_found : (b : Bearing) (counts : List Counts) (k : ℕ) (found : Option (Bor Counts)) → b.layers ≤ length counts → IsItemAt (take b.layers counts) k found
+    → slice_get (range_places b counts) k ≡ option_map (with_layers b k) (option_copied found)
+place_found b counts k None enough read =
+    let n = length-take-le b.layers counts enough in
+    let off : length (take b.layers counts) ≤ k = read.3 in
+    range_off b (hand_at counts) (gone_at counts) k (omega arith)
+place_found b counts k (Some c) enough read =
+    let n = length-take-le b.layers counts enough in
+    let lt : k < length (take b.layers counts) = read.3.0 in
+    place_read b counts k c.now (omega arith) (omega arith) ∙ ap (λ (d : Counts). Some (with_layers b k d)) (sym (read.1 ∙ get_or-take b.layers counts k c.now (omega arith)))
 
 module _ {I : Type 0} (f g : ℕ → Place I) where
   same_from : (a n : ℕ) → ((i : ℕ) → a ≤ i → g i ≡ f i) → map g (range_with_len a n) ≡ map f (range_with_len a n)
@@ -71,16 +82,3 @@ places_set b counts k new lt =
 
     made : (j : ℕ) {h h' o o' : ℕ} → h ≡ h' → o ≡ o' → ◌≡◌ {A = Place Bearing} (record { item = layered b (j + 1); on_hand = h; out = o }) (record { item = layered b (j + 1); on_hand = h'; out = o' })
     made j = ap₂ (λ (h o : ℕ). record { item = layered b (j + 1); on_hand = h; out = o })
-
--- what a change answers, by the place that stands there
-module _ (change : Change) (k : ℕ) (s : Stock Bearing) where
-  pub refused_off : (why : Refusal) → slice_get s.places k ≡ None → why ≡ off_shelf change → Changed {T = Unit {0}} change k s (Err why) s
-  refused_off why off is = rw off (is, refl)
-
-  module _ (p : Place Bearing) (there : slice_get s.places k ≡ Some p) where
-    pub refused_counts : (why : Refusal) → Err why ≡ counts_after change p.on_hand p.out → Changed {T = Unit {0}} change k s (Err why) s
-    refused_counts why is = rw there (rw (sym is) (refl, refl))
-
-    pub changed_counts : (hand gone : ℕ) (places : List (Place Bearing)) → Ok (hand, gone) ≡ counts_after change p.on_hand p.out → places ≡ recounted s.places k hand gone
-        → Changed {T = Unit {0}} change k s (Ok tt) (record { number = s.number; places = places })
-    changed_counts hand gone places is set_is = rw there (rw (sym is) (ap (λ (ps : List (Place Bearing)). record { number = s.number; places = ps }) set_is))

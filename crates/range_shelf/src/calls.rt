@@ -1,41 +1,21 @@
-ghost use Rattle.range_shelf.specs.Range.{range_stock};
-ghost use Rattle.shelf.specs.Changes.{Changed, place_seen};
+ghost use Rattle.range_shelf.specs.Range.{range_stock, with_layers};
 ghost use Rattle.std.specs.List.{slice_get};
-ghost use Rattle.std.specs.Prelude.{◌≡◌};
+ghost use Rattle.std.specs.Option.{option_map};
+ghost use Rattle.std.specs.Prelude.{◌≡◌, ◌<◌, IfSome};
 
 use super::RangeShelf;
 use bearings::Bearing;
 use rulebook::Refusal;
-use shelf::{Change, Place, Places, Shelf};
+use shelf::{Change, Counts, Place, Places, Shelf};
 
 impl RangeShelf {
-    fn place_in(&self, place: usize) -> Result<Place<Bearing>, Refusal>
-        ensures { result ≡ place_seen (slice_get (range_stock self.now).places place) }
+    // The counts of a place of the shelf.
+    fn counts_at(&self, place: usize) -> Option<Counts>
+        ensures stands { slice_get (range_stock self.now).places place ≡ option_map (with_layers self.now.bearing place) result }
+        ensures within { IfSome result (λ _. place < self.now.bearing.layers) }
     {
-        if place >= self.bearing.layers as usize {
-            return Err(Refusal::OffShelf);
-        }
-        let counts = self.counts[place];
-        Ok(Place {
-            item: Bearing {
-                layers: place as u8 + 1,
-                ..self.bearing
-            },
-            on_hand: counts.on_hand,
-            out: counts.out,
-        })
-    }
-
-    // Changes the counts of one place, or refuses and leaves all as they were.
-    fn change(&mut self, place: usize, change: Change) -> Result<(), Refusal>
-        ensures { Changed change place (range_stock self.old) result (range_stock self.new) }
-    {
-        if place >= self.bearing.layers as usize {
-            return Err(change.off_shelf());
-        }
-        let counts = self.counts[place].after(change)?;
-        self.counts[place] = counts;
-        Ok(())
+        let used = &self.counts[..self.bearing.layers as usize];
+        used.get(place).copied()
     }
 }
 
@@ -52,28 +32,21 @@ impl Shelf for RangeShelf {
     }
 
     fn place(&self, place: usize) -> Result<Place<Bearing>, Refusal> {
-        self.place_in(place)
+        let counts = self.counts_at(place).ok_or(Refusal::OffShelf)?;
+        Ok(Place {
+            item: Bearing {
+                layers: place as u8 + 1,
+                ..self.bearing
+            },
+            on_hand: counts.on_hand,
+            out: counts.out,
+        })
     }
 
-    fn receive(&mut self, place: usize, count: u32) -> Result<(), Refusal> {
-        self.change(place, Change::Receive(count))
-    }
-
-    fn take(&mut self, place: usize) -> Result<(), Refusal> {
-        self.change(place, Change::Take)
-    }
-
-    fn order(&mut self, number: u32, place: usize) -> Result<(), Refusal> {
-        if number != self.number {
-            return Err(Refusal::OtherShelf);
-        }
-        self.change(place, Change::Order)
-    }
-
-    fn give_back(&mut self, number: u32, place: usize) -> Result<(), Refusal> {
-        if number != self.number {
-            return Err(Refusal::OtherShelf);
-        }
-        self.change(place, Change::GiveBack)
+    fn change(&mut self, place: usize, change: Change) -> Result<(), Refusal> {
+        let counts = self.counts_at(place).ok_or(change.off_shelf())?;
+        let counts = counts.after(change)?;
+        self.counts[place] = counts;
+        Ok(())
     }
 }

@@ -17,10 +17,10 @@ impl RangeShelf {
         if number == 0 {
             return Err(OpeningRefusal::ShelfNumber);
         }
-        match bearing.first_outside() {
-            Some(field) => Err(OpeningRefusal::Item { place: 0, field }),
-            None => Ok(()),
+        if let Some(field) = bearing.first_outside() {
+            return Err(OpeningRefusal::Item { place: 0, field });
         }
+        Ok(())
     }
 
     // Opens a shelf that `check` lets through, with all counts 0. It can't be refused.

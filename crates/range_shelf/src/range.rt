@@ -8,6 +8,7 @@ use shelf::Counts;
 pub struct RangeShelf {
     pub(crate) number: u32,
     pub(crate) bearing: Bearing,
+    // of each place, and then unused: a shelf keeps its counts in itself, and takes no memory from a heap
     pub(crate) counts: [Counts; 20],
     ghost few_layers: { bearing.layers ≤ 20 },
 }
