@@ -1,5 +1,5 @@
 -- What the search for the best place answers, and what it keeps as it goes from the front to the last place.
-use Rattle.std.specs.Prelude.{◌≡◌, ℕ, ◌<◌, Bool, ◌&&◌, ◌||◌, ◌≢◌, List, Some, None, Option, ◌==◌, nat_lt}
+use Rattle.std.specs.Prelude.{◌≡◌, ℕ, ◌<◌, ◌≢◌, List, Some, None, Option}
 use Rattle.rulebook.specs.Books.{Rules}
 use Rattle.rulebook.specs.declared.case.Case.{Case}
 use Rattle.shelf.specs.Choice.{Passes, Serves, Before, NoneServes, Best}
@@ -18,10 +18,6 @@ PlaceServes R c p = (0 < p.on_hand) × Passes R p.item c
 
 abbrev pub SizeOf : {I : Type 0} → Rules I → I → Size → Type 0
 SizeOf R i size = (size.height ≡ R.height i) × (size.plan_number ≡ R.plan_number i)
-
--- lower, or as high and smaller in plan number
-abbrev pub lower : Size → Size → Bool
-lower a b = nat_lt a.height b.height || (a.height == b.height && nat_lt a.plan_number b.plan_number)
 
 -- of the places below n, this is the best
 pub record FoundIs {I : Type 0} (R : Rules I) (items : List I) (hand : ℕ → ℕ) (c : Case) (n : ℕ) (found : Found) : Type 0 where

@@ -1,9 +1,8 @@
 -- What a pick answers.
 use Rattle.std.specs.Prelude.{Result}
 use Rattle.rulebook.specs.declared.refusal.Refusal.{Refusal}
-use Rattle.shelf.specs.Answers.{reply}
-use Rattle.shelf.specs.declared.answer.Answer.{Answer}
-use Rattle.shelf.specs.declared.answer.Answer.TheVariants.{Picked}
+use Rattle.shelf.specs.Answers.{Answer, reply}
+use Rattle.shelf.specs.declared.answer.Granted.TheVariants.{Picked}
 use Rattle.picking.specs.declared.found.Taken.{Taken}
 
 abbrev pub picked_at : {I : Type 0} → Result Taken Refusal → Answer I

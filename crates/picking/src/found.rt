@@ -1,5 +1,5 @@
-// What items are compared by.
-#[derive(Clone, Copy)]
+// What items are compared by: the height, and then the plan number.
+#[derive(Clone, Copy, PartialEq, Eq, PartialOrd, Ord)]
 pub(crate) struct Size {
     pub(crate) height: u32,
     pub(crate) plan_number: u32,

@@ -1,5 +1,5 @@
 ghost use Rattle.std.specs.Prelude.{◌≡◌, ◌+◌, ◌<◌, length, MatchOption};
-ghost use Rattle.picking.specs.Search.{PlaceServes, SizeOf, lower, FoundBelow, BestSays};
+ghost use Rattle.picking.specs.Search.{PlaceServes, SizeOf, FoundBelow, BestSays};
 ghost use Rattle.shelf.specs.Stock.{layout, on_hand};
 
 use super::found::{Found, Size};
@@ -16,25 +16,13 @@ fn serving_size<B: RuleBook>(book: &B, place: &Place<B::Item>, case: &Case) -> O
     if !item_passes(book, &place.item, case) {
         return None;
     }
-    let Ok(height) = book.height(&place.item) else {
-        return None;
-    };
-    let Ok(plan_number) = book.plan_number(&place.item) else {
-        return None;
-    };
     Some(Size {
-        height,
-        plan_number,
+        height: book.height(&place.item).ok()?,
+        plan_number: book.plan_number(&place.item).ok()?,
     })
 }
 
-fn is_lower(a: Size, b: Size) -> bool
-    ensures { result ≡ lower a b }
-{
-    a.height < b.height || (a.height == b.height && a.plan_number < b.plan_number)
-}
-
-// The best place up to `place`, by the best one before it.
+// The best place up to `place`, by the best one before it. A book, a shelf and a case are lent by three owners for one call, and so stay three parameters.
 fn better<B: RuleBook, S: Shelf<Item = B::Item>>(
     book: &B,
     shelf: &S,
@@ -53,14 +41,8 @@ fn better<B: RuleBook, S: Shelf<Item = B::Item>>(
         return found;
     };
     match found {
-        None => Some(Found { place, size }),
-        Some(best) => {
-            if is_lower(size, best.size) {
-                Some(Found { place, size })
-            } else {
-                Some(best)
-            }
-        }
+        Some(best) if size >= best.size => found,
+        _ => Some(Found { place, size }),
     }
 }
 
@@ -74,11 +56,9 @@ pub fn best<B: RuleBook, S: Shelf<Item = B::Item>>(
 {
     let count = shelf.places().count;
     let mut found: Option<Found> = None;
+    // by its index, since each place is judged in its turn and named by it
     for place in 0..count {
         found = better(book, shelf, case, place, found);
     }
-    match found {
-        Some(best) => Some(best.place),
-        None => None,
-    }
+    found.map(|best| best.place)
 }

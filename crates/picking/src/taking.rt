@@ -22,9 +22,7 @@ pub fn take_best<B: RuleBook, S: Shelf<Item = B::Item>>(
     if !book.rest_within(case) {
         return Err(Refusal::Rest);
     }
-    let Some(place) = best(book, shelf, case) else {
-        return Err(Refusal::NoneOnHand);
-    };
+    let place = best(book, shelf, case).ok_or(Refusal::NoneOnHand)?;
     let number = shelf.places().number;
     shelf.take(place)?;
     Ok(Taken { number, place })
