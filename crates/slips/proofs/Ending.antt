@@ -1,30 +1,28 @@
 -- A slip that was just handed over can be ended on its shelf, and its return leaves the shelf as it was before the pick.
-use Rattle.std.proofs.Common.{◌≡◌, ℕ, zero, suc, ◌+◌, ◌-◌, ◌<◌, ◌≤◌, List, [], ◌∷◌, map, length, get_or, refl, ap, ◌∙◌, subst, ap₂, inl, inr, arith}
+use Rattle.std.proofs.Common.{◌≡◌, ℕ, zero, suc, ◌+◌, ◌-◌, ◌<◌, List, [], ◌∷◌, map, length, get_or, Ok, Err, refl, ap, ◌∙◌, subst, ap₂, arith}
+use Rattle.std.proofs.lemmas.Option.{slice_get_within}
 use Rattle.rulebook.specs.Books.{Rules}
 use Rattle.rulebook.specs.declared.case.Case.{Case}
 use Rattle.rulebook.specs.declared.refusal.Refusal.{Refusal}
-use Rattle.shelf.proofs.Granted.{Named, named}
-use Rattle.shelf.proofs.Standing.{nth_within, items_recounted, count_same}
+use Rattle.shelf.proofs.Named.{Named, named}
+use Rattle.shelf.proofs.Standing.{items_recounted, count_same}
 use Rattle.shelf.specs.Answers.{SlipEnds}
 use Rattle.shelf.specs.Calls.{picks, orders, returns}
 use Rattle.shelf.specs.Steps.{Step}
 use Rattle.shelf.specs.Stock.{Stock, layout, on_hand, out, recounted, with_counts}
-use Rattle.shelf.specs.declared.answer.Answer.TheVariants.{Refused, Done, Picked}
+use Rattle.shelf.specs.declared.answer.Granted.TheVariants.{Done, Picked}
 use Rattle.shelf.specs.declared.answer.Place.{Place}
 
 -- an end of a slip of this shelf whose place has one out is not refused
-ends : {I : Type 0} (s : Stock I) (number k : ℕ) (why : Refusal) → number ≡ s.number → k < length (layout s).items → 0 < out s k → SlipEnds (layout s) (out s) number k (Refused why) → ⊥
-ends s number k why own on some (inl h) = h.0 own
-ends s number k why own on some (inr (_, inl (inl off, _))) = let o : length (layout s).items ≤ k = off in omega arith
-ends s number k why own on some (inr (_, inl (inr none, _))) = omega arith
-ends s number k why own on some (inr (_, inr (_, e))) = let z : ◌≡◌ {A = ℕ} 0 1 = cc in omega arith
+ends : {I : Type 0} (s : Stock I) (number k : ℕ) (why : Refusal) → number ≡ s.number → k < length (layout s).items → 0 < out s k → SlipEnds (layout s) (out s) number k (Err why) → ⊥
+ends s number k why own on some h = grind arith
 
-module _ {I : Type 0} (R : Rules I) (c : Case) (s s₁ : Stock I) (number k : ℕ) (step : Step s (picks R c) (Picked number k) s₁) where
+module _ {I : Type 0} (R : Rules I) (c : Case) (s s₁ : Stock I) (number k : ℕ) (step : Step s (picks R c) (Ok (Picked number k)) s₁) where
   name : Named R (layout s) (on_hand s) c number k
   name = named (layout s) (on_hand s) (out s) R c number k step.right
 
   on_shelf : k < length (layout s).items
-  on_shelf = nth_within (layout s).items k name.best.item name.best.serves.stands
+  on_shelf = slice_get_within (layout s).items k name.best.item name.best.serves.stands
 
   taken : Stock I
   taken = with_counts s k (on_hand s k - 1) (out s k + 1)
@@ -45,18 +43,18 @@ module _ {I : Type 0} (R : Rules I) (c : Case) (s s₁ : Stock I) (number k : �
   unfolding taken
   taken_hand = count_same (λ (p : Place I). p.on_hand) s.places k (on_hand s k - 1) (out s k + 1) (on_hand s k - 1) (λ i. refl) on_shelf
 
-  end_granted : (why : Refusal) → SlipEnds (layout s₁) (out s₁) number k (Refused why) → ⊥
+  end_granted : (why : Refusal) → SlipEnds (layout s₁) (out s₁) number k (Err why) → ⊥
   unfolding taken
   end_granted why h =
       let long = ap length taken_items in
       let on : k < length (layout taken).items = omega (arith, long, on_shelf) in
       let some : 0 < out taken k = omega (arith, taken_out) in
-      ends taken number k why name.own on some (subst (λ (x : Stock I). SlipEnds (layout x) (out x) number k (Refused why)) is_taken h)
+      ends taken number k why name.own on some (subst (λ (x : Stock I). SlipEnds (layout x) (out x) number k (Err why)) is_taken h)
 
-  pub order_granted : (why : Refusal) (s₂ : Stock I) → Step s₁ (orders number k) (Refused why) s₂ → ⊥
+  pub order_granted : (why : Refusal) (s₂ : Stock I) → Step s₁ (orders number k) (Err why) s₂ → ⊥
   order_granted why s₂ h = end_granted why h.right
 
-  pub return_granted : (why : Refusal) (s₂ : Stock I) → Step s₁ (returns number k) (Refused why) s₂ → ⊥
+  pub return_granted : (why : Refusal) (s₂ : Stock I) → Step s₁ (returns number k) (Err why) s₂ → ⊥
   return_granted why s₂ h = end_granted why h.right
 
   -- the counts set twice, and set to what they were
@@ -70,7 +68,7 @@ module _ {I : Type 0} (R : Rules I) (c : Case) (s s₁ : Stock I) (number k : �
   set_same (p ∷ ps) zero = refl
   set_same (p ∷ ps) (suc j) = ap (λ qs. p ∷ qs) (set_same ps j)
 
-  pub returned_as_was : (s₂ : Stock I) → Step s₁ (returns number k) Done s₂ → s₂ ≡ s
+  pub returned_as_was : (s₂ : Stock I) → Step s₁ (returns number k) (Ok Done) s₂ → s₂ ≡ s
   unfolding taken
   returned_as_was s₂ h =
       let some = name.best.serves.some in

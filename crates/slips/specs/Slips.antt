@@ -1,20 +1,20 @@
 -- What the calls with a slip answer.
 use Rattle.std.specs.Prelude.{◌≡◌, Ok, Err, Result}
 use Rattle.rulebook.specs.declared.refusal.Refusal.{Refusal}
-use Rattle.shelf.specs.declared.answer.Answer.{Answer}
-use Rattle.shelf.specs.declared.answer.Answer.TheVariants.{Refused, Done, Picked}
+use Rattle.shelf.specs.Answers.{Answer}
+use Rattle.shelf.specs.declared.answer.Granted.TheVariants.{Done, Picked}
 use Rattle.slips.specs.declared.slip.HandedBack.{HandedBack}
 use Rattle.slips.specs.declared.slip.Slip.{Slip}
 
 -- a pick's answer: the slip's numbers
 abbrev pub picked : {I : Type 0} → Result Slip Refusal → Answer I
-picked (Ok slip) = Picked slip.number slip.place
-picked (Err why) = Refused why
+picked (Ok slip) = Ok (Picked slip.number slip.place)
+picked (Err why) = Err why
 
 -- the answer to the end of a slip
 abbrev pub ended : {I T : Type 0} → Result T HandedBack → Answer I
-ended (Ok done) = Done
-ended (Err back) = Refused back.why
+ended (Ok done) = Ok Done
+ended (Err back) = Err back.why
 
 -- a slip that is handed back is the one that was handed in
 abbrev pub BackAs : {T : Type 0} → Slip → Result T HandedBack → Type 0

@@ -44,13 +44,8 @@ impl Slip {
         ensures step { Step (S.meaning shelf.old) (orders self.number self.place) (ended result) (S.meaning shelf.new) }
         ensures back { BackAs self result }
     {
-        match shelf.order(self.number, self.place) {
-            Ok(()) => {
-                self.spend();
-                Ok(())
-            }
-            Err(why) => Err(HandedBack { slip: self, why }),
-        }
+        let answer = shelf.order(self.number, self.place);
+        self.settled(answer)
     }
 
     // The bearing comes back to its place. A refused return hands the slip back.
@@ -58,12 +53,7 @@ impl Slip {
         ensures step { Step (S.meaning shelf.old) (returns self.number self.place) (ended result) (S.meaning shelf.new) }
         ensures back { BackAs self result }
     {
-        match shelf.give_back(self.number, self.place) {
-            Ok(()) => {
-                self.spend();
-                Ok(())
-            }
-            Err(why) => Err(HandedBack { slip: self, why }),
-        }
+        let answer = shelf.give_back(self.number, self.place);
+        self.settled(answer)
     }
 }
