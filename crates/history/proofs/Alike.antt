@@ -1,17 +1,16 @@
 -- A call has one right answer, so the calls of a history decide its answers and its end.
-use Rattle.std.proofs.Common.{◌≡◌, ℕ, List, [], ◌∷◌, sym, refl, ap, ◌∙◌, subst, ap₂, inl, inr, arith}
+use Rattle.std.proofs.Common.{◌≡◌, ℕ, List, [], ◌∷◌, Ok, sym, refl, ap, ◌∙◌, subst, ap₂, inl, inr, arith}
 use native.Mathlib.Decide.{ℕ_discrete}
+use Rattle.std.proofs.lemmas.Option.{same_Some}
 use Rattle.rulebook.specs.Books.{Rules}
 use Rattle.rulebook.specs.declared.case.Case.{Case}
 use Rattle.rulebook.specs.declared.refusal.Refusal.{Refusal}
-use Rattle.shelf.proofs.Standing.{some_is}
-use Rattle.shelf.specs.Answers.{Right, Refuses}
+use Rattle.shelf.specs.Answers.{Answer, Right, Refuses}
 use Rattle.shelf.specs.Calls.{Call, receives, picks, orders, returns, asks_place, asks_places}
 use Rattle.shelf.specs.Choice.{Best, Before}
 use Rattle.shelf.specs.Steps.{Step, movement, moved}
 use Rattle.shelf.specs.Stock.{Stock, Layout, layout, on_hand, out}
-use Rattle.shelf.specs.declared.answer.Answer.{Answer}
-use Rattle.shelf.specs.declared.answer.Answer.TheVariants.{Picked, Shown}
+use Rattle.shelf.specs.declared.answer.Granted.TheVariants.{Picked, Shown}
 use Rattle.history.specs.Decided.{calls_of, Decided}
 use Rattle.history.specs.History.{Event}
 
@@ -36,11 +35,11 @@ module _ {I : Type 0} (shelf : Layout I) (hand gone : ℕ → ℕ) (a a' : Answe
   right_alike (receives k n) = refused_alike a a' _ _ _ _ (refused_alike a a' _ _ _ _ (λ h h'. h ∙ sym h'))
   right_alike (picks R c) =
       refused_alike a a' _ _ _ _ (refused_alike a a' _ _ _ _ (refused_alike a a' _ _ _ _
-      (λ h h'. h.1 ∙ ap (λ (k : ℕ). Picked shelf.number k) (best_alike R shelf.items hand c h.0 h'.0 h.2 h'.2) ∙ sym h'.1)))
+      (λ h h'. h.1 ∙ ap (λ (k : ℕ). Ok (Picked shelf.number k)) (best_alike R shelf.items hand c h.0 h'.0 h.2 h'.2) ∙ sym h'.1)))
   right_alike (orders number k) = refused_alike a a' _ _ _ _ (refused_alike a a' _ _ _ _ (λ h h'. h ∙ sym h'))
   right_alike (returns number k) = refused_alike a a' _ _ _ _ (refused_alike a a' _ _ _ _ (λ h h'. h ∙ sym h'))
   right_alike (asks_place k) =
-      refused_alike a a' _ _ _ _ (λ h h'. h.2 ∙ ap (λ (i : I). Shown (record { item = i; on_hand = hand k; out = gone k })) (some_is (sym h.1 ∙ h'.1)) ∙ sym h'.2)
+      refused_alike a a' _ _ _ _ (λ h h'. h.2 ∙ ap (λ (i : I). Ok (Shown (record { item = i; on_hand = hand k; out = gone k }))) (same_Some _ _ (sym h.1 ∙ h'.1)) ∙ sym h'.2)
   right_alike asks_places = λ h h'. h ∙ sym h'
 
 pub decided : (I : Type 0) → Decided I

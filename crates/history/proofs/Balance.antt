@@ -2,12 +2,12 @@
 use Rattle.std.proofs.Common.{◌≡◌, ℕ, ◌+◌, ◌-◌, ◌<◌, ◌≤◌, ◌≢◌, ◌⊎◌, List, [], ◌∷◌, length, sym, refl, ap, ◌∙◌, subst, inl, inr, arith}
 use native.Mathlib.Decide.{ℕ_discrete}
 use Rattle.std.proofs.lemmas.Bool.{eq-eqb, ne_eqb}
-use Rattle.shelf.proofs.Standing.{nth_within, items_recounted, count_same, count_other}
-use Rattle.shelf.specs.Answers.{Right, Off}
+use Rattle.std.proofs.lemmas.Option.{slice_get_within}
+use Rattle.shelf.proofs.Standing.{items_recounted, count_same, count_other}
+use Rattle.shelf.specs.Answers.{Answer, Right, Off}
 use Rattle.shelf.specs.Calls.{Call, receives, picks, orders, returns, asks_place, asks_places}
 use Rattle.shelf.specs.Steps.{Movement, receipt, pick, order, return, nothing, movement, moved}
 use Rattle.shelf.specs.Stock.{Stock, layout, on_hand, out, with_counts}
-use Rattle.shelf.specs.declared.answer.Answer.{Answer}
 use Rattle.shelf.specs.declared.answer.Place.{Place}
 use Rattle.history.specs.Account.{at, receives_at, picks_at, orders_at, returns_at, received, picked, ordered, returned}
 use Rattle.history.specs.History.{Event, Goes}
@@ -52,7 +52,7 @@ module _ {I : Type 0} (s : Stock I) where
   allowed (picks R c) a (inr (_, inl h)) = by_answer (picks R c) a _ h.1 tt
   allowed (picks R c) a (inr (_, inr (_, inl h))) = by_answer (picks R c) a _ h.1 tt
   allowed (picks R c) a (inr (_, inr (_, inr (_, h)))) =
-      by_answer (picks R c) a _ h.1 (nth_within (layout s).items h.0 h.2.item h.2.serves.stands, h.2.serves.some)
+      by_answer (picks R c) a _ h.1 (slice_get_within (layout s).items h.0 h.2.item h.2.serves.stands, h.2.serves.some)
   allowed (orders number k) a (inl h) = by_answer (orders number k) a _ h.1 tt
   allowed (orders number k) a (inr (_, inl h)) = by_answer (orders number k) a _ h.1 tt
   allowed (orders number k) a (inr (_, inr h)) = by_answer (orders number k) a _ h.1 (some_out k h.0)

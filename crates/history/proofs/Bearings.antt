@@ -1,5 +1,5 @@
 -- Buckling and margin, under the Section 14 book.
-use Rattle.std.proofs.Common.{◌≡◌, Bool, true, List, [], ◌∷◌, Some, refl, ap, subst}
+use Rattle.std.proofs.Common.{◌≡◌, Bool, true, List, [], ◌∷◌, Some, Ok, refl, ap, subst}
 use Rattle.std.proofs.lemmas.Bool.{and_parts, and_from}
 use Rattle.std.specs.List.{slice_get}
 use Rattle.bearings.specs.Fractions.{all_hold, holds}
@@ -11,10 +11,10 @@ use Rattle.rulebook.specs.Books.{every}
 use Rattle.rulebook.specs.declared.case.Case.{Case}
 use Rattle.section14.specs.Articles.{compression, shear, uplift, rotation, steel}
 use Rattle.section14.specs.Book.{section14_rules, section14_articles}
-use Rattle.shelf.proofs.Granted.{named}
+use Rattle.shelf.proofs.Named.{named}
 use Rattle.shelf.specs.Calls.{picks}
 use Rattle.shelf.specs.Stock.{Layout, layout, on_hand, out}
-use Rattle.shelf.specs.declared.answer.Answer.TheVariants.{Picked}
+use Rattle.shelf.specs.declared.answer.Granted.TheVariants.{Picked}
 use Rattle.history.proofs.Balance.{balance}
 use Rattle.history.proofs.Law.{call_behind}
 use Rattle.history.specs.History.{Event, Goes}
@@ -37,7 +37,7 @@ passing_buckles b c h =
 
 pub buckling_so : Buckling
 buckling_so book opened s past new goes newer older c number k e =
-    let behind = call_behind book opened new newer older (picks section14_rules c) (Picked number k) s (subst (λ (es : List (Event Bearing)). Goes opened es s) e goes) in
+    let behind = call_behind book opened new newer older (picks section14_rules c) (Ok (Picked number k)) s (subst (λ (es : List (Event Bearing)). Goes opened es s) e goes) in
     let s₁ = behind.0 in
     let best = (named (layout s₁) (on_hand s₁) (out s₁) section14_rules c number k behind.3.right).best in
     let parts = passing_parts section14_rules best.item c best.serves.passing in

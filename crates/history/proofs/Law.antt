@@ -4,12 +4,11 @@ use mathlib.Core.Path.{subst₃, fun_ext}
 use Rattle.std.proofs.lemmas.Bool.{both_ways}
 use Rattle.rulebook.specs.Books.{Rules}
 use Rattle.rulebook.specs.declared.case.Case.{Case}
-use Rattle.shelf.specs.Answers.{Right}
+use Rattle.shelf.specs.Answers.{Answer, Right}
 use Rattle.shelf.specs.Calls.{Call, picks}
 use Rattle.shelf.specs.Opening.{Opened}
 use Rattle.shelf.specs.Steps.{Step}
 use Rattle.shelf.specs.Stock.{Stock, Layout, layout, on_hand, out}
-use Rattle.shelf.specs.declared.answer.Answer.{Answer}
 use Rattle.history.proofs.Balance.{balance, stays_few}
 use Rattle.history.specs.Account.{on_hand_by, out_by}
 use Rattle.history.specs.History.{Event, event, Goes}

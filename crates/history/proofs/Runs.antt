@@ -7,7 +7,7 @@ use Rattle.shelf.specs.Calls.{asked}
 use Rattle.shelf.specs.Opening.{Opened}
 use Rattle.shelf.specs.Steps.{Step}
 use Rattle.shelf.specs.Stock.{Stock}
-use Rattle.shelf.specs.declared.answer.Answer.{Answer}
+use Rattle.shelf.specs.Answers.{Answer}
 use Rattle.shelf.specs.declared.request.Request.{Request}
 use Rattle.history.proofs.Bearings.{buckling_so, margin_so}
 use Rattle.history.proofs.Law.{goes_on, kept}

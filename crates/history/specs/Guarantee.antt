@@ -3,7 +3,7 @@ use Rattle.std.specs.Prelude.{◌≡◌, List, ◌++◌, length, Ok, Err, Result
 use Rattle.rulebook.specs.Books.{Rules}
 use Rattle.shelf.specs.Opening.{Opened}
 use Rattle.shelf.specs.Stock.{Stock}
-use Rattle.shelf.specs.declared.answer.Answer.{Answer}
+use Rattle.shelf.specs.Answers.{Answer}
 use Rattle.shelf.specs.declared.request.Request.{Request}
 use Rattle.history.specs.History.{Event, Goes, history_of}
 use Rattle.history.specs.Kept.{Kept}

@@ -4,7 +4,7 @@ use Rattle.rulebook.specs.Books.{Rules}
 use Rattle.shelf.specs.Calls.{Call, asked}
 use Rattle.shelf.specs.Steps.{Step}
 use Rattle.shelf.specs.Stock.{Stock}
-use Rattle.shelf.specs.declared.answer.Answer.{Answer}
+use Rattle.shelf.specs.Answers.{Answer}
 use Rattle.shelf.specs.declared.request.Request.{Request}
 
 -- a call with its answer

@@ -1,14 +1,13 @@
 -- What holds of a history on a shelf that was opened, for any items, books and shelves.
-use Rattle.std.specs.Prelude.{◌≡◌, ℕ, ◌+◌, ◌≤◌, true, ◌≢◌, ◌↔◌, List, ◌∷◌, ◌++◌}
+use Rattle.std.specs.Prelude.{◌≡◌, ℕ, ◌+◌, ◌≤◌, true, ◌≢◌, ◌↔◌, Ok, Err, List, ◌∷◌, ◌++◌}
 use Rattle.rulebook.specs.Books.{Rules}
 use Rattle.rulebook.specs.declared.case.Case.{Case}
 use Rattle.rulebook.specs.declared.refusal.Refusal.TheVariants.{NoneOnHand}
-use Rattle.shelf.specs.Answers.{Right}
+use Rattle.shelf.specs.Answers.{Answer, Right}
 use Rattle.shelf.specs.Calls.{Call, picks}
 use Rattle.shelf.specs.Choice.{NoneServes, Best}
 use Rattle.shelf.specs.Stock.{Stock, Layout, layout, on_hand, out}
-use Rattle.shelf.specs.declared.answer.Answer.{Answer}
-use Rattle.shelf.specs.declared.answer.Answer.TheVariants.{Refused, Picked}
+use Rattle.shelf.specs.declared.answer.Granted.TheVariants.{Picked}
 use Rattle.history.specs.Account.{received, picked, ordered, returned, on_hand_by, out_by}
 use Rattle.history.specs.History.{Event, event, Goes}
 
@@ -22,8 +21,8 @@ pub record Accounted {I : Type 0} (opened : Stock I) (past : List (Event I)) (s 
 
 -- Choice: a pick says 8 exactly when no item on hand passes, and else names this shelf and the best place
 pub record PickSays {I : Type 0} (R : Rules I) (shelf : Layout I) (hand : ℕ → ℕ) (c : Case) (answer : Answer I) : Type 0 where
-  pub eight : (answer ≡ Refused NoneOnHand) ↔ NoneServes R shelf.items hand c
-  pub names : answer ≢ Refused NoneOnHand → (k : ℕ) × (answer ≡ Picked shelf.number k) × Best R shelf.items hand c k
+  pub eight : (answer ≡ Err NoneOnHand) ↔ NoneServes R shelf.items hand c
+  pub names : answer ≢ Err NoneOnHand → (k : ℕ) × (answer ≡ Ok (Picked shelf.number k)) × Best R shelf.items hand c k
 
 pub record Kept {I : Type 0} (opened : Stock I) (past : List (Event I)) (s : Stock I) : Type 0 where
   -- at each point of the history, after the older calls and before the newer ones, the shelf is as the account of the older ones has it

@@ -1,5 +1,5 @@
 -- What holds of picks under the Section 14 book, over every shelf of bearings.
-use Rattle.std.specs.Prelude.{◌≡◌, ℕ, ◌-◌, true, List, ◌∷◌, ◌++◌, Some, None}
+use Rattle.std.specs.Prelude.{◌≡◌, ℕ, ◌-◌, true, List, ◌∷◌, ◌++◌, Some, None, Ok}
 use Rattle.std.specs.List.{slice_get}
 use Rattle.bearings.specs.Fractions.{◌over◌, whole, holds}
 use Rattle.bearings.specs.declared.bearing.Bearing.{Bearing}
@@ -10,7 +10,7 @@ use Rattle.section14.specs.Book.{section14_rules}
 use Rattle.shelf.specs.Calls.{picks}
 use Rattle.shelf.specs.Opening.{Opened}
 use Rattle.shelf.specs.Stock.{Stock, layout}
-use Rattle.shelf.specs.declared.answer.Answer.TheVariants.{Picked}
+use Rattle.shelf.specs.declared.answer.Granted.TheVariants.{Picked}
 use Rattle.history.specs.History.{Event, event, Goes}
 
 -- the article of that number, counted from 1, holds
@@ -21,7 +21,7 @@ ArticleHolds R i c number = slice_get (R.articles i c) (number - 1) ≡ Some tru
 abbrev pub Buckling : Type 0
 Buckling =
     (book : Rules Bearing) (opened s : Stock Bearing) (past : List (Event Bearing)) → Opened book opened → Goes opened past s
-    → (newer older : List (Event Bearing)) (c : Case) (number k : ℕ) → past ≡ newer ++ (event (picks section14_rules c) (Picked number k) ∷ older)
+    → (newer older : List (Event Bearing)) (c : Case) (number k : ℕ) → past ≡ newer ++ (event (picks section14_rules c) (Ok (Picked number k)) ∷ older)
     → (b : Bearing) × (slice_get (layout opened).items k ≡ Some b) × (holds (exact_buckling (whole 1) b c) ≡ true)
 
 -- Margin: article 5 is found to hold wherever the exact article holds even with 1.02·X in the place of X

@@ -2,22 +2,11 @@ ghost use Rattle.history.specs.Guarantee.{Served};
 ghost use Rattle.history.specs.Decided.{Decided};
 ghost use Rattle.shelf.specs.Calls.{asked};
 ghost use Rattle.shelf.specs.Steps.{Step};
-ghost use Rattle.shelf.specs.Answers.{done};
-ghost use Rattle.std.specs.Prelude.{◌≡◌};
 
 use picking::take_best;
-use rulebook::{Refusal, RuleBook};
-use shelf::{Answer, Request, Shelf};
+use rulebook::RuleBook;
+use shelf::{Answer, Granted, Request, Shelf};
 use std::alloc::AllocError;
-
-fn done<I>(r: Result<(), Refusal>) -> Answer<I>
-    ensures { result ≡ done r }
-{
-    match r {
-        Ok(()) => Answer::Done,
-        Err(why) => Answer::Refused(why),
-    }
-}
 
 // One call, with its answer.
 fn answer<B: RuleBook, S: Shelf<Item = B::Item>>(
@@ -27,23 +16,29 @@ fn answer<B: RuleBook, S: Shelf<Item = B::Item>>(
 ) -> Answer<B::Item>
     ensures { Step (S.meaning shelf.old) (asked (B.rules book.now) call) result (S.meaning shelf.new) }
 {
-    match call {
-        Request::Receive { place, count } => done(shelf.receive(place, count)),
-        Request::Pick(case) => match take_best(book, shelf, &case) {
-            Ok(taken) => Answer::Picked {
+    Ok(match call {
+        Request::Receive { place, count } => {
+            shelf.receive(place, count)?;
+            Granted::Done
+        }
+        Request::Pick(case) => {
+            let taken = take_best(book, shelf, &case)?;
+            Granted::Picked {
                 number: taken.number,
                 place: taken.place,
-            },
-            Err(why) => Answer::Refused(why),
-        },
-        Request::Order { number, place } => done(shelf.order(number, place)),
-        Request::GiveBack { number, place } => done(shelf.give_back(number, place)),
-        Request::Place { place } => match shelf.place(place) {
-            Ok(shown) => Answer::Shown(shown),
-            Err(why) => Answer::Refused(why),
-        },
-        Request::Places => Answer::Counted(shelf.places()),
-    }
+            }
+        }
+        Request::Order { number, place } => {
+            shelf.order(number, place)?;
+            Granted::Done
+        }
+        Request::GiveBack { number, place } => {
+            shelf.give_back(number, place)?;
+            Granted::Done
+        }
+        Request::Place { place } => Granted::Shown(shelf.place(place)?),
+        Request::Places => Granted::Counted(shelf.places()),
+    })
 }
 
 // Makes the calls one after the other, under the book, and puts an answer to each behind the answers. A want of memory is met before the first call, and

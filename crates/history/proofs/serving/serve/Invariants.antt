@@ -1,7 +1,7 @@
 use Rattle.std.proofs.Common.{◌≡◌, ◌+◌, ◌≤◌, List, ◌++◌, length, take, vec_items, vec_len, vec_capacity}
 use Rattle.history.proofs.serving.serve.Given as goal
 use Rattle.history.specs.History.{Goes, history_of}
-use Rattle.shelf.specs.declared.answer.Answer.{Answer}
+use Rattle.shelf.specs.Answers.{Answer}
 
 abbrev pub invariant-loop-call : goal.invariant-loop-call
 invariant-loop-call g l =
