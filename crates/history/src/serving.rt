@@ -43,6 +43,7 @@ fn answer<B: RuleBook, S: Shelf<Item = B::Item>>(
 
 // Makes the calls one after the other, under the book, and puts an answer to each behind the answers. A want of memory is met before the first call, and
 // then nothing has changed.
+#[tactic(auto, using(crate::proofs::Alike::decided))]
 pub fn serve<B: RuleBook, S: Shelf<Item = B::Item>>(
     book: &B,
     shelf: &mut S,

@@ -1,18 +1,6 @@
-use Rattle.std.proofs.Common.{◌+◌, [], ◌∷◌, ◌++◌, vec_items, sym, refl, ap, ◌∙◌, append_assoc, append-nil, arith, length-append}
-use Rattle.std.proofs.lemmas.Result.{err_from_is_err_and}
-use Rattle.history.proofs.Alike.{decided}
+use Rattle.std.proofs.Common.{◌+◌, [], ◌∷◌, ◌++◌, vec_items, ap, ◌∙◌, append_assoc, arith, length-append}
 use Rattle.history.proofs.Runs.{goes_more, goes_all, guaranteed}
 use Rattle.history.proofs.serving.serve.Goals as goal
-
-pub returns-in_err-reserve : goal.returns-in_err-reserve
-returns-in_err-reserve g c =
-    let p = err_from_is_err_and c.from_residual.result c.from_residual.ensures.1 in
-    rw p.1 (record { guarantee = (c.reserve.ensures.items, refl); decided = decided g.row.B-Item.Denot })
-
-pub loop-call-init : goal.loop-call-init
-loop-call-init g c =
-    let room = c.in_ok-reserve.ensures.ok in
-    (omega (arith, room), ([], sym (append-nil (vec_items c.reserve.new.self)), refl, refl))
 
 pub loop-call-preserved : goal.loop-call-preserved
 loop-call-preserved g c =
@@ -27,17 +15,13 @@ loop-call-preserved g c =
       ),
     )
 
-pub returns : goal.returns
-returns g c =
+pub returns-clause-guarantee : goal.returns-clause-guarantee
+returns-clause-guarantee g c =
     let new = c.loop-call.invariant.1.0 in
-    let goes = goes_all _ _ _ c.args.calls.now new _ c.loop-call-test.false c.loop-call.invariant.1.3 in
-    record {
-      guarantee = (
-        new,
-        c.loop-call.invariant.1.1 ∙ ap (λ xs. xs ++ new) c.reserve.ensures.items,
-        omega (arith, c.loop-call.invariant.1.2, c.loop-call-test.false, c.loop-call.auto.call-index-end),
-        goes,
-        guaranteed _ _ _ goes,
-      );
-      decided = decided g.row.B-Item.Denot;
-    }
+    let goes = goes_all _ _ _ c.args.calls.now new _ c.loop-call-test.false c.loop-call.invariant.1.3 in (
+      new,
+      c.loop-call.invariant.1.1 ∙ ap (λ xs. xs ++ new) c.reserve.ensures.items,
+      omega (arith, c.loop-call.invariant.1.2, c.loop-call-test.false, c.loop-call.auto.call-index-end),
+      goes,
+      guaranteed _ _ _ goes,
+    )
