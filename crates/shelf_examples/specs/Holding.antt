@@ -5,13 +5,12 @@ use Rattle.history.specs.History.{Event, event, Goes}
 use Rattle.rulebook.specs.Books.{Rules}
 use Rattle.rulebook.specs.declared.case.Case.{Case}
 use Rattle.rulebook.specs.declared.refusal.Refusal.{Refusal}
-use Rattle.shelf.specs.Answers.{Right}
+use Rattle.shelf.specs.Answers.{Answer, Right}
 use Rattle.shelf.specs.Calls.{Call, picks, orders, returns}
 use Rattle.shelf.specs.Opening.{Opened}
 use Rattle.shelf.specs.Steps.{Step}
 use Rattle.shelf.specs.Stock.{Stock, layout, on_hand, out}
-use Rattle.shelf.specs.declared.answer.Answer.{Answer}
-use Rattle.shelf.specs.declared.answer.Answer.TheVariants.{Refused, Done, Picked}
+use Rattle.shelf.specs.declared.answer.Granted.TheVariants.{Done, Picked}
 use Rattle.slips.specs.Slips.{picked}
 use Rattle.slips.specs.declared.slip.Slip.{Slip}
 use Rattle.shelf_examples.specs.declared.unended.Unended.{Unended}
@@ -19,21 +18,21 @@ use Rattle.shelf_examples.specs.declared.unended.Unended.TheVariants.{NotPicked,
 
 -- a pick that named the place k, and then its order; or a refused pick
 abbrev pub Ordered : {I : Type 0} → Rules I → Case → Stock I → Result ℕ Refusal → Stock I → Type 0
-Ordered {I} R c s (Ok k) s' = (s₁ : Stock I) × Step s (picks R c) (Picked s.number k) s₁ × Step s₁ (orders s.number k) Done s'
-Ordered R c s (Err why) s' = Step s (picks R c) (Refused why) s'
+Ordered {I} R c s (Ok k) s' = (s₁ : Stock I) × Step s (picks R c) (Ok (Picked s.number k)) s₁ × Step s₁ (orders s.number k) (Ok Done) s'
+Ordered R c s (Err why) s' = Step s (picks R c) (Err why) s'
 
 -- the place that a pick names, or its refusal; the shelf stays as it was
 abbrev pub Borrowed : {I : Type 0} → Rules I → Case → Stock I → Result ℕ Refusal → Stock I → Type 0
-Borrowed R c s (Ok k) s' = Right (layout s) (on_hand s) (out s) (picks R c) (Picked s.number k) × (s' ≡ s)
-Borrowed R c s (Err why) s' = Right (layout s) (on_hand s) (out s) (picks R c) (Refused why) × (s' ≡ s)
+Borrowed R c s (Ok k) s' = Right (layout s) (on_hand s) (out s) (picks R c) (Ok (Picked s.number k)) × (s' ≡ s)
+Borrowed R c s (Err why) s' = Right (layout s) (on_hand s) (out s) (picks R c) (Err why) × (s' ≡ s)
 
 -- a pick and the return of its slip; or a refused pick; or a pick, and a refused return that handed its slip back
 abbrev pub Returned : {I T : Type 0} → Rules I → Case → Stock I → Result T Unended → Stock I → Type 0
 Returned {I} R c s (Ok done) s' =
-    (s₁ : Stock I) × (slip : Slip) × Step s (picks R c) (Picked slip.number slip.place) s₁ × Step s₁ (returns slip.number slip.place) Done s'
-Returned R c s (Err (NotPicked why)) s' = Step s (picks R c) (Refused why) s'
+    (s₁ : Stock I) × (slip : Slip) × Step s (picks R c) (Ok (Picked slip.number slip.place)) s₁ × Step s₁ (returns slip.number slip.place) (Ok Done) s'
+Returned R c s (Err (NotPicked why)) s' = Step s (picks R c) (Err why) s'
 Returned {I} R c s (Err (NotReturned back)) s' =
-    (s₁ : Stock I) × Step s (picks R c) (Picked back.slip.number back.slip.place) s₁ × Step s₁ (returns back.slip.number back.slip.place) (Refused back.why) s'
+    (s₁ : Stock I) × Step s (picks R c) (Ok (Picked back.slip.number back.slip.place)) s₁ × Step s₁ (returns back.slip.number back.slip.place) (Err back.why) s'
 
 -- two picks, one after the other
 abbrev pub TwoPicks : {I : Type 0} → Rules I → Case → Stock I → (first second : Result Slip Refusal) → Stock I → Type 0

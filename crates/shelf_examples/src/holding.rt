@@ -19,13 +19,12 @@ pub fn pick_and_order<B: RuleBook, S: Shelf<Item = B::Item>>(
 {
     let slip = pick(book, shelf, case)?;
     let from = slip.place();
-    match slip.order(shelf) {
-        Ok(()) => Ok(from),
-        Err(_back) => Ok(from),
-    }
+    slip.order(shelf).unwrap();
+    Ok(from)
 }
 
-// Picks an item and returns it, likewise. The shelf is then as it was.
+// Picks an item and returns it, likewise. The shelf is then as it was. It differs from the order in the call that ends the slip alone; were that call a
+// closure, each caller would have to show that it is granted.
 pub fn pick_and_return<B: RuleBook, S: Shelf<Item = B::Item>>(
     book: &B,
     shelf: &mut S,
@@ -35,10 +34,8 @@ pub fn pick_and_return<B: RuleBook, S: Shelf<Item = B::Item>>(
 {
     let slip = pick(book, shelf, case)?;
     let place = slip.place();
-    match slip.give_back(shelf) {
-        Ok(()) => Ok(place),
-        Err(_back) => Ok(place),
-    }
+    slip.give_back(shelf).unwrap();
+    Ok(place)
 }
 
 // Picks an item and returns it. A slip that is not ended goes to the caller, who has to end it.
@@ -49,13 +46,9 @@ pub fn pick_then_return<B: RuleBook, S: Shelf<Item = B::Item>>(
 ) -> Result<(), Unended>
     ensures { Returned (B.rules book.now) case.now (S.meaning shelf.old) result (S.meaning shelf.new) }
 {
-    match pick(book, shelf, case) {
-        Ok(slip) => match slip.give_back(shelf) {
-            Ok(()) => Ok(()),
-            Err(back) => Err(Unended::NotReturned(back)),
-        },
-        Err(why) => Err(Unended::NotPicked(why)),
-    }
+    let slip = pick(book, shelf, case)?;
+    slip.give_back(shelf)?;
+    Ok(())
 }
 
 // Two picks, one after the other: the caller has to end both slips.

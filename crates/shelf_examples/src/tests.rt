@@ -6,7 +6,7 @@ use pads::PadBook;
 use range_shelf::RangeShelf;
 use rulebook::{Case, Refusal};
 use section14::Section14;
-use shelf::{Answer, Place, Request, Shelf};
+use shelf::{Granted, Place, Request, Shelf};
 use std::test::Fail;
 
 fn bearing(plan: Plan) -> Bearing {
@@ -69,28 +69,28 @@ fn picks_bearings(rt: HostRuntime) -> Result<(), Fail> {
     let mut answers = Vec::new(rt.alloc());
     serve(&Section14, &mut shelf, &calls, &mut answers)?;
     let expected = [
-        Answer::Done,
-        Answer::Done,
-        Answer::Picked {
+        Ok(Granted::Done),
+        Ok(Granted::Done),
+        Ok(Granted::Picked {
             number: 7,
             place: 1,
-        },
-        Answer::Picked {
+        }),
+        Ok(Granted::Picked {
             number: 7,
             place: 0,
-        },
-        Answer::Refused(Refusal::NoneOnHand),
-        Answer::Done,
-        Answer::Refused(Refusal::OtherShelf),
-        Answer::Refused(Refusal::NoneOut),
-        Answer::Shown(Place {
+        }),
+        Err(Refusal::NoneOnHand),
+        Ok(Granted::Done),
+        Err(Refusal::OtherShelf),
+        Err(Refusal::NoneOut),
+        Ok(Granted::Shown(Place {
             item: bearing(Plan::Rectangle {
                 length: 20,
                 width: 40,
             }),
             on_hand: 1,
             out: 0,
-        }),
+        })),
     ];
     assert_eq!(rt; answers.as_slice(), expected.as_slice());
     Ok(())

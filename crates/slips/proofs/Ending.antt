@@ -1,5 +1,5 @@
 -- A slip that was just handed over can be ended on its shelf, and its return leaves the shelf as it was before the pick.
-use Rattle.std.proofs.Common.{◌≡◌, ℕ, zero, suc, ◌+◌, ◌-◌, ◌<◌, List, [], ◌∷◌, map, length, get_or, Ok, Err, refl, ap, ◌∙◌, subst, ap₂, arith}
+use Rattle.std.proofs.Common.{◌≡◌, ℕ, zero, suc, ◌+◌, ◌-◌, ◌<◌, List, [], ◌∷◌, map, length, get_or, Ok, Err, Result, IsOk, refl, ap, ◌∙◌, subst, ap₂, arith}
 use Rattle.std.proofs.lemmas.Option.{slice_get_within}
 use Rattle.rulebook.specs.Books.{Rules}
 use Rattle.rulebook.specs.declared.case.Case.{Case}
@@ -12,6 +12,8 @@ use Rattle.shelf.specs.Steps.{Step}
 use Rattle.shelf.specs.Stock.{Stock, layout, on_hand, out, recounted, with_counts}
 use Rattle.shelf.specs.declared.answer.Granted.TheVariants.{Done, Picked}
 use Rattle.shelf.specs.declared.answer.Place.{Place}
+use Rattle.slips.specs.Slips.{ended}
+use Rattle.slips.specs.declared.slip.HandedBack.{HandedBack}
 
 -- an end of a slip of this shelf whose place has one out is not refused
 ends : {I : Type 0} (s : Stock I) (number k : ℕ) (why : Refusal) → number ≡ s.number → k < length (layout s).items → 0 < out s k → SlipEnds (layout s) (out s) number k (Err why) → ⊥
@@ -51,11 +53,13 @@ module _ {I : Type 0} (R : Rules I) (c : Case) (s s₁ : Stock I) (number k : �
       let some : 0 < out taken k = omega (arith, taken_out) in
       ends taken number k why name.own on some (subst (λ (x : Stock I). SlipEnds (layout x) (out x) number k (Err why)) is_taken h)
 
-  pub order_granted : (why : Refusal) (s₂ : Stock I) → Step s₁ (orders number k) (Err why) s₂ → ⊥
-  order_granted why s₂ h = end_granted why h.right
+  pub order_granted : (r : Result (Unit {0}) HandedBack) (s₂ : Stock I) → Step s₁ (orders number k) (ended r) s₂ → IsOk r
+  order_granted (Ok done) s₂ h = refl
+  order_granted (Err back) s₂ h = absurd (end_granted back.why h.right)
 
-  pub return_granted : (why : Refusal) (s₂ : Stock I) → Step s₁ (returns number k) (Err why) s₂ → ⊥
-  return_granted why s₂ h = end_granted why h.right
+  pub return_granted : (r : Result (Unit {0}) HandedBack) (s₂ : Stock I) → Step s₁ (returns number k) (ended r) s₂ → IsOk r
+  return_granted (Ok done) s₂ h = refl
+  return_granted (Err back) s₂ h = absurd (end_granted back.why h.right)
 
   -- the counts set twice, and set to what they were
   set_twice : (ps : List (Place I)) (j h o h' o' : ℕ) → recounted (recounted ps j h o) j h' o' ≡ recounted ps j h' o'

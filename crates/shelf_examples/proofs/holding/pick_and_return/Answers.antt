@@ -2,17 +2,8 @@ use Rattle.shelf_examples.proofs.Held.{borrowed_so}
 use Rattle.shelf_examples.proofs.holding.pick_and_return.Goals as goal
 use Rattle.slips.proofs.Ending.{return_granted}
 
-pub drop-back-requires : goal.drop-back-requires
-drop-back-requires g c =
-    absurd (return_granted (g.B.RuleBook.rules c.args.book.now) c.args.case.now (g.S.Shelf.meaning c.args.shelf.now) (g.S.Shelf.meaning c.pick.new.shelf)
-    c.in_ok-slip.slip.number c.in_ok-slip.slip.place c.in_ok-slip.ensures.step c.in-Err._back.why (g.S.Shelf.meaning c.give_back.new.shelf) c.in-Err.ensures.step)
+pub unwrap-requires : goal.unwrap-requires
+unwrap-requires g c = return_granted _ _ _ _ _ _ c.in_ok-slip.ensures.step _ _ c.give_back.ensures.step
 
-pub returns-in-Ok : goal.returns-in-Ok
-returns-in-Ok g c =
-    borrowed_so (g.B.RuleBook.rules c.args.book.now) c.args.case.now (g.S.Shelf.meaning c.args.shelf.now) (g.S.Shelf.meaning c.pick.new.shelf) (g.S.Shelf.meaning c.give_back.new.shelf)
-    c.in_ok-slip.slip.number c.in_ok-slip.slip.place c.place-place.result c.place-place.ensures c.in_ok-slip.ensures.step c.in-Ok.ensures.step
-
-pub returns-in-Err : goal.returns-in-Err
-returns-in-Err g c =
-    absurd (return_granted (g.B.RuleBook.rules c.args.book.now) c.args.case.now (g.S.Shelf.meaning c.args.shelf.now) (g.S.Shelf.meaning c.pick.new.shelf)
-    c.in_ok-slip.slip.number c.in_ok-slip.slip.place c.in_ok-slip.ensures.step c.in-Err._back.why (g.S.Shelf.meaning c.give_back.new.shelf) c.in-Err.ensures.step)
+pub returns : goal.returns
+returns g c = borrowed_so _ _ _ _ _ _ _ _ c.place-place.ensures c.in_ok-slip.ensures.step (rw c.unwrap.ensures at c.give_back.ensures.step)
