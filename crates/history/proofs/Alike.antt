@@ -44,8 +44,8 @@ module _ {I : Type 0} (shelf : Layout I) (hand gone : ℕ → ℕ) (a a' : Answe
 
 pub decided : (I : Type 0) → Decided I
 decided I s t t' [] [] same h h' = (refl, h ∙ sym h')
-decided I s t t' [] (e' ∷ past') same h h' = let z : ◌≡◌ {A = ℕ} 0 1 = cc in absurd (omega arith)
-decided I s t t' (e ∷ past) [] same h h' = let z : ◌≡◌ {A = ℕ} 0 1 = cc in absurd (omega arith)
+decided I s t t' [] (e' ∷ past') same h h' = absurd (cc)
+decided I s t t' (e ∷ past) [] same h h' = absurd (cc)
 decided I s t t' (e ∷ past) (e' ∷ past') same h h' =
     let tails : calls_of past ≡ calls_of past' = cc in
     let calls : e.call ≡ e'.call = cc in

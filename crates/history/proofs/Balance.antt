@@ -4,7 +4,7 @@ use native.Mathlib.Decide.{ℕ_discrete}
 use Rattle.std.proofs.lemmas.Bool.{eq-eqb, ne_eqb}
 use Rattle.std.proofs.lemmas.Option.{slice_get_within}
 use Rattle.shelf.proofs.Standing.{items_recounted, count_same, count_other}
-use Rattle.shelf.specs.Answers.{Answer, Right, Off}
+use Rattle.shelf.specs.Answers.{Answer, Right}
 use Rattle.shelf.specs.Calls.{Call, receives, picks, orders, returns, asks_place, asks_places}
 use Rattle.shelf.specs.Steps.{Movement, receipt, pick, order, return, nothing, movement, moved}
 use Rattle.shelf.specs.Stock.{Stock, layout, on_hand, out, with_counts}
@@ -34,31 +34,15 @@ Allowed s nothing = Unit {0}
 
 -- a right answer moves what the shelf allows
 module _ {I : Type 0} (s : Stock I) where
-  by_answer : (call : Call I) (answer answer' : Answer I) → answer ≡ answer' → Allowed s (movement call answer') → Allowed s (movement call answer)
-  by_answer call answer answer' e h = subst (λ (x : Answer I). Allowed s (movement call x)) (sym e) h
-
-  on : (k : ℕ) → (Off (layout s) k → ⊥) → k < length (layout s).items
-  on k h = let off : length (layout s).items ≤ k → ⊥ = h in omega arith
-
-  some_out : (k : ℕ) → (Off (layout s) k ⊎ (out s k ≡ 0) → ⊥) → (k < length (layout s).items) × (0 < out s k)
-  some_out k h = let out≢ : out s k ≢ 0 = λ z. h (inr z) in (on k (λ o. h (inl o)), omega arith)
-
   pub allowed : (call : Call I) (answer : Answer I) → Right (layout s) (on_hand s) (out s) call answer → Allowed s (movement call answer)
-  allowed (receives k n) a (inl h) = by_answer (receives k n) a _ h.1 tt
-  allowed (receives k n) a (inr (_, inl h)) = by_answer (receives k n) a _ h.1 tt
-  allowed (receives k n) a (inr (off, inr h)) =
-      let fits : 60000 < on_hand s k + out s k + n → ⊥ = λ more. h.0 (inr more) in by_answer (receives k n) a _ h.1 (on k off, omega arith)
-  allowed (picks R c) a (inl h) = by_answer (picks R c) a _ h.1 tt
-  allowed (picks R c) a (inr (_, inl h)) = by_answer (picks R c) a _ h.1 tt
-  allowed (picks R c) a (inr (_, inr (_, inl h))) = by_answer (picks R c) a _ h.1 tt
+  allowed (receives k n) a h = grind arith
+  allowed (picks R c) a (inl h) = rw h.1 tt
+  allowed (picks R c) a (inr (_, inl h)) = rw h.1 tt
+  allowed (picks R c) a (inr (_, inr (_, inl h))) = rw h.1 tt
   allowed (picks R c) a (inr (_, inr (_, inr (_, h)))) =
-      by_answer (picks R c) a _ h.1 (slice_get_within (layout s).items h.0 h.2.item h.2.serves.stands, h.2.serves.some)
-  allowed (orders number k) a (inl h) = by_answer (orders number k) a _ h.1 tt
-  allowed (orders number k) a (inr (_, inl h)) = by_answer (orders number k) a _ h.1 tt
-  allowed (orders number k) a (inr (_, inr h)) = by_answer (orders number k) a _ h.1 (some_out k h.0)
-  allowed (returns number k) a (inl h) = by_answer (returns number k) a _ h.1 tt
-  allowed (returns number k) a (inr (_, inl h)) = by_answer (returns number k) a _ h.1 tt
-  allowed (returns number k) a (inr (_, inr h)) = by_answer (returns number k) a _ h.1 (some_out k h.0)
+      rw h.1 (slice_get_within (layout s).items h.0 h.2.item h.2.serves.stands, h.2.serves.some)
+  allowed (orders number k) a h = grind arith
+  allowed (returns number k) a h = grind arith
   allowed (asks_place k) a h = tt
   allowed asks_places a h = tt
 
@@ -85,50 +69,18 @@ module _ {I : Type 0} (from : Stock I) (rec pic ord ret : ℕ → ℕ) (s : Stoc
 
   moves : (m : Movement) → Allowed s m
       → Balance from (moved s m) (λ k. rec k + receives_at m k) (λ k. pic k + picks_at m k) (λ k. ord k + orders_at m k) (λ k. ret k + returns_at m k)
-  moves (receipt k n) (within, fits) = record {
-    same = kept_layout k _ _;
-    hand = λ j. elim (set_counts s k (on_hand s k + n) (out s k) within j) [
-      | inl (e, h, o, h', o') ↦ let a = at_same k j n e in omega (arith, was.hand j)
-      | inr (ne, h, o) ↦ let a = at_other k j n ne in omega (arith, was.hand j)
-    ];
-    gone = λ j. elim (set_counts s k (on_hand s k + n) (out s k) within j) [
-      | inl (e, h, o, h', o') ↦ omega (arith, was.gone j)
-      | inr (ne, h, o) ↦ omega (arith, was.gone j)
-    ];
-  }
-  moves (pick k) (within, some) = record {
-    same = kept_layout k _ _;
-    hand = λ j. elim (set_counts s k (on_hand s k - 1) (out s k + 1) within j) [
-      | inl (e, h, o, h', o') ↦ let a = at_same k j 1 e in omega (arith, was.hand j)
-      | inr (ne, h, o) ↦ let a = at_other k j 1 ne in omega (arith, was.hand j)
-    ];
-    gone = λ j. elim (set_counts s k (on_hand s k - 1) (out s k + 1) within j) [
-      | inl (e, h, o, h', o') ↦ let a = at_same k j 1 e in omega (arith, was.gone j)
-      | inr (ne, h, o) ↦ let a = at_other k j 1 ne in omega (arith, was.gone j)
-    ];
-  }
-  moves (order k) (within, some) = record {
-    same = kept_layout k _ _;
-    hand = λ j. elim (set_counts s k (on_hand s k) (out s k - 1) within j) [
-      | inl (e, h, o, h', o') ↦ omega (arith, was.hand j)
-      | inr (ne, h, o) ↦ omega (arith, was.hand j)
-    ];
-    gone = λ j. elim (set_counts s k (on_hand s k) (out s k - 1) within j) [
-      | inl (e, h, o, h', o') ↦ let a = at_same k j 1 e in omega (arith, was.gone j)
-      | inr (ne, h, o) ↦ let a = at_other k j 1 ne in omega (arith, was.gone j)
-    ];
-  }
-  moves (return k) (within, some) = record {
-    same = kept_layout k _ _;
-    hand = λ j. elim (set_counts s k (on_hand s k + 1) (out s k - 1) within j) [
-      | inl (e, h, o, h', o') ↦ let a = at_same k j 1 e in omega (arith, was.hand j)
-      | inr (ne, h, o) ↦ let a = at_other k j 1 ne in omega (arith, was.hand j)
-    ];
-    gone = λ j. elim (set_counts s k (on_hand s k + 1) (out s k - 1) within j) [
-      | inl (e, h, o, h', o') ↦ let a = at_same k j 1 e in omega (arith, was.gone j)
-      | inr (ne, h, o) ↦ let a = at_other k j 1 ne in omega (arith, was.gone j)
-    ];
-  }
+  moves (receipt k n) (within, may) =
+      let set = set_counts s k (on_hand s k + n) (out s k) within in
+      record { same = kept_layout k _ _; hand = λ j. let now = set j in grind (arith, at_same, at_other, was.hand j); gone = λ j. let now = set j in grind (arith, at_same, at_other, was.gone j) }
+  moves (pick k) (within, may) =
+      let set = set_counts s k (on_hand s k - 1) (out s k + 1) within in
+      record { same = kept_layout k _ _; hand = λ j. let now = set j in grind (arith, at_same, at_other, was.hand j); gone = λ j. let now = set j in grind (arith, at_same, at_other, was.gone j) }
+  moves (order k) (within, may) =
+      let set = set_counts s k (on_hand s k) (out s k - 1) within in
+      record { same = kept_layout k _ _; hand = λ j. let now = set j in grind (arith, at_same, at_other, was.hand j); gone = λ j. let now = set j in grind (arith, at_same, at_other, was.gone j) }
+  moves (return k) (within, may) =
+      let set = set_counts s k (on_hand s k + 1) (out s k - 1) within in
+      record { same = kept_layout k _ _; hand = λ j. let now = set j in grind (arith, at_same, at_other, was.hand j); gone = λ j. let now = set j in grind (arith, at_same, at_other, was.gone j) }
   moves nothing ok = record { same = was.same; hand = λ j. omega (arith, was.hand j); gone = λ j. omega (arith, was.gone j) }
 
 pub balance : {I : Type 0} (from : Stock I) (past : List (Event I)) (s : Stock I) → Goes from past s → Balance from s (received past) (picked past) (ordered past) (returned past)
@@ -142,22 +94,10 @@ balance {I} from (e ∷ past) s (s₁, goes, step) =
 -- on hand and out together stay within their limit
 module _ {I : Type 0} (s : Stock I) (was : (k : ℕ) → on_hand s k + out s k ≤ 60000) where
   few_moves : (m : Movement) → Allowed s m → (j : ℕ) → on_hand (moved s m) j + out (moved s m) j ≤ 60000
-  few_moves (receipt k n) (within, fits) j = elim (set_counts s k (on_hand s k + n) (out s k) within j) [
-    | inl (e, h, o, h', o') ↦ omega arith
-    | inr (ne, h, o) ↦ omega (arith, was j)
-  ]
-  few_moves (pick k) (within, some) j = elim (set_counts s k (on_hand s k - 1) (out s k + 1) within j) [
-    | inl (e, h, o, h', o') ↦ omega (arith, was k)
-    | inr (ne, h, o) ↦ omega (arith, was j)
-  ]
-  few_moves (order k) (within, some) j = elim (set_counts s k (on_hand s k) (out s k - 1) within j) [
-    | inl (e, h, o, h', o') ↦ omega (arith, was k)
-    | inr (ne, h, o) ↦ omega (arith, was j)
-  ]
-  few_moves (return k) (within, some) j = elim (set_counts s k (on_hand s k + 1) (out s k - 1) within j) [
-    | inl (e, h, o, h', o') ↦ omega (arith, was k)
-    | inr (ne, h, o) ↦ omega (arith, was j)
-  ]
+  few_moves (receipt k n) (within, may) j = let now = set_counts s k (on_hand s k + n) (out s k) within j in grind (arith, was k, was j)
+  few_moves (pick k) (within, may) j = let now = set_counts s k (on_hand s k - 1) (out s k + 1) within j in grind (arith, was k, was j)
+  few_moves (order k) (within, may) j = let now = set_counts s k (on_hand s k) (out s k - 1) within j in grind (arith, was k, was j)
+  few_moves (return k) (within, may) j = let now = set_counts s k (on_hand s k + 1) (out s k - 1) within j in grind (arith, was k, was j)
   few_moves nothing ok j = was j
 
 pub stays_few : {I : Type 0} (from : Stock I) → ((k : ℕ) → on_hand from k + out from k ≤ 60000) → (past : List (Event I)) (s : Stock I) → Goes from past s → (k : ℕ) → on_hand s k + out s k ≤ 60000

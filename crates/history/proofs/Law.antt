@@ -70,4 +70,4 @@ module _ {I : Type 0} where
         pick_says R shelf hand gone c answer (inr (_, inl h)) loads rest = absurd (both_ways (R.rest c) h.0 rest)
         pick_says R shelf hand gone c answer (inr (_, inr (_, inl h))) loads rest = record { eight = (λ e. h.0, λ none. h.1); names = λ ne. absurd (ne h.1) }
         pick_says R shelf hand gone c answer (inr (_, inr (_, inr (some, h)))) loads rest =
-            record { eight = (λ e. let z : ◌≡◌ {A = ℕ} 0 1 = cc (e, h.1) in absurd (omega arith), λ none. absurd (some none)); names = λ ne. h }
+            record { eight = (λ e. cc (e, h.1), λ none. absurd (some none)); names = λ ne. h }

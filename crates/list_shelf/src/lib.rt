@@ -5,6 +5,5 @@
 mod list;
 mod opening;
 mod slot;
-mod slots;
 
 pub use slot::{ListShelf, Slot};
