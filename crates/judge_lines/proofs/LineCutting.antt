@@ -1,5 +1,5 @@
 -- What is left of the lines of an input behind the first.
-use Rattle.std.proofs.Common.{◌≡◌, ℕ, suc, ◌+◌, ◌-◌, ◌<◌, ◌≤◌, true, false, eqb, List, [], ◌∷◌, ◌++◌, length, take, drop, sym, refl, ap, ◌∙◌, ⊎_elim, append_assoc, append-nil, add-one, arith, true-eqb, false-eqb}
+use Rattle.std.proofs.Common.{◌≡◌, ℕ, suc, ◌+◌, ◌-◌, ◌<◌, true, false, eqb, List, [], ◌∷◌, ◌++◌, length, take, drop, sym, refl, ap, ◌∙◌, ⊎_elim, append_assoc, append-nil, add-one, arith, true-eqb, false-eqb}
 use Rattle.std.proofs.lemmas.List.{length-append, length-drop, take_rest, take_all, drop_all, nil_from_length}
 use Rattle.std.proofs.lemmas.Bool.{cases_Bool, cond-true, cond-false}
 use Rattle.std.specs.List.{prefix_len}
@@ -37,19 +37,13 @@ lines_cut bs line rest some l r = lines_first bs some ∙ sym (rw (l, r))
 pub cut_shorter : (bs rest : List ℕ) → 0 < length bs → rest ≡ drop (prefix_len in_line bs + 1) bs → length rest < length bs
 cut_shorter bs rest some r = omega (arith, ap length r ∙ length-drop (prefix_len in_line bs + 1) bs)
 
--- what `first_line` cuts off at the place i, where the first newline stands
-pub cut_line : (bs : List ℕ) (i : ℕ) → prefix_len in_line bs ≡ i → take (i - 0) bs ≡ take (prefix_len in_line bs) bs
-cut_line bs i e = ap (λ n. take n bs) (omega arith)
-
-pub cut_rest : (bs : List ℕ) (i : ℕ) → prefix_len in_line bs ≡ i → take (length bs - (i + 1)) (drop (i + 1) bs) ≡ drop (prefix_len in_line bs + 1) bs
-cut_rest bs i e = take_rest bs (i + 1) ∙ ap (λ n. drop (n + 1) bs) (sym e)
+-- what `first_line` cuts off at the place where the first newline stands
+pub cut_at : (bs : List ℕ) (end : ℕ) → prefix_len in_line bs ≡ end → (take end bs ≡ take (prefix_len in_line bs) bs) × (take (length bs - (end + 1)) (drop (end + 1) bs) ≡ drop (prefix_len in_line bs + 1) bs)
+cut_at bs end e = (ap (λ n. take n bs) (sym e), take_rest bs (end + 1) ∙ ap (λ n. drop (n + 1) bs) (sym e))
 
 -- or at the end, where there is none
-pub whole_line : (bs : List ℕ) → length bs ≤ prefix_len in_line bs → bs ≡ take (prefix_len in_line bs) bs
-whole_line bs h = sym (take_all (prefix_len in_line bs) bs h)
-
-pub whole_rest : (bs : List ℕ) → length bs ≤ prefix_len in_line bs → take (length bs - length bs) (drop (length bs) bs) ≡ drop (prefix_len in_line bs + 1) bs
-whole_rest bs h = take_rest bs (length bs) ∙ drop_all (length bs) bs (omega arith) ∙ sym (drop_all (prefix_len in_line bs + 1) bs (omega arith))
+pub whole : (bs : List ℕ) → prefix_len in_line bs ≡ length bs → (bs ≡ take (prefix_len in_line bs) bs) × ([] ≡ drop (prefix_len in_line bs + 1) bs)
+whole bs e = (sym (take_all (prefix_len in_line bs) bs (omega arith)), sym (drop_all (prefix_len in_line bs + 1) bs (omega arith)))
 
 -- what a test for an empty list says
 pub some_left : {X : Type 0} (xs : List X) → false ≡ eqb (length xs) 0 → 0 < length xs

@@ -55,7 +55,7 @@ call_of call.Place = long then λ place. done (request.Place place)
 call_of call.Places = done request.Places
 
 abbrev pub fields_of : Head → Reading Entry
-fields_of (is.Opening s) = long then λ number. done (entry.Opening s number)
+fields_of (is.Opening s) = long then λ number. done (entry.Opening (record { sort = s; number = number }))
 fields_of (is.Item kind) = item_of kind then λ i. done (entry.Item i)
 fields_of (is.Call c) = call_of c then λ r. done (entry.Call r)
 

@@ -5,7 +5,7 @@ ghost use Rattle.judge_lines.specs.Reader.{Reads};
 use super::entry::{Call, Head};
 use super::records::{read_case, read_item};
 use super::words::Words;
-use super::{Entry, LineFault};
+use super::{Entry, LineFault, Opening};
 use shelf::Request;
 
 fn read_call(call: Call, words: &mut Words) -> Result<Request, LineFault>
@@ -41,10 +41,10 @@ fn read_fields(head: Head, words: &mut Words) -> Result<Entry, LineFault>
     ensures counted { OnOk result (words.new.place ≤ words.old.place + 8) }
 {
     let entry = match head {
-        Head::Opening(sort) => Entry::Opening {
+        Head::Opening(sort) => Entry::Opening(Opening {
             sort,
             number: words.long()?,
-        },
+        }),
         Head::Item(kind) => Entry::Item(read_item(kind, words)?),
         Head::Call(call) => Entry::Call(read_call(call, words)?),
     };

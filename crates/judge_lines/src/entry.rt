@@ -10,10 +10,17 @@ pub enum Sort {
     Range,
 }
 
+// A line that opens a shelf: what stands on it, and its number.
+#[derive(Clone, Copy)]
+pub struct Opening {
+    pub sort: Sort,
+    pub number: u32,
+}
+
 // A line of a shelf's text: it opens a shelf, stands for an item, or is a call.
 #[derive(Clone, Copy)]
 pub enum Entry {
-    Opening { sort: Sort, number: u32 },
+    Opening(Opening),
     Item(Item),
     Call(Request),
 }

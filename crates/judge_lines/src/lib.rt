@@ -14,10 +14,10 @@ mod texts;
 mod words;
 
 pub use entries::read_entry;
-pub use entry::{Entry, Sort};
+pub use entry::{Entry, Opening, Sort};
 pub use fault::{LineFault, WordFault};
 pub use judgement::{Item, Judgement};
-pub use lines::first_line;
+pub use lines::{Lines, first_line};
 pub use records::read_judgement;
 
 #[cfg(test)]
@@ -65,9 +65,9 @@ mod tests {
             _ => return Err(Fail::new("no return")),
         }
         match read_entry(b"range 12")? {
-            Entry::Opening { sort, number } => {
-                assert_eq!(rt; sort, Sort::Range);
-                assert_eq!(rt; number, 12);
+            Entry::Opening(opening) => {
+                assert_eq!(rt; opening.sort, Sort::Range);
+                assert_eq!(rt; opening.number, 12);
             }
             _ => return Err(Fail::new("no opening")),
         }
