@@ -31,10 +31,6 @@ infixr 20 ◌then◌
 abbrev pub ◌then◌ : {X Y : Type 0} → Reading X → (X → Reading Y) → Reading Y
 reading then next = λ p. onward (reading p) next
 
-abbrev pub placed_at : {X : Type 0} → (place : ℕ) → Result X WordFault → Result X LineFault
-placed_at place (Ok x) = Ok x
-placed_at place (Err what) = Err (record { word = place; what = what })
-
 -- what is made of the word at `place`, or what is wrong with it
 abbrev pub made_of : {X : Type 0} → Result X WordFault → ℕ → List (List ℕ) → Outcome X
 made_of (Ok x) place after = Ok (x, record { place = place + 1; left = after })

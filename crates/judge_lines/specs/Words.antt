@@ -1,14 +1,9 @@
 -- The words of a line: its longest runs of bytes that are no blanks.
-use Rattle.std.specs.Prelude.{ℕ, Bool, true, false, cond, not, ◌||◌, List, [], ◌∷◌, ◌++◌, ◌==◌}
+use Rattle.std.specs.Prelude.{ℕ, Bool, cond, ◌||◌, List, [], ◌∷◌, ◌++◌, ◌==◌}
 
 -- space, tab, carriage return
 unfoldable pub blank : ℕ → Bool
 blank b = b == 32 || (b == 9 || b == 13)
-
--- whether a byte goes on a run of blanks, or of other bytes
-abbrev pub in_run : (blanks : Bool) → ℕ → Bool
-in_run true b = blank b
-in_run false b = not (blank b)
 
 -- a run that has ended is a word, unless it is empty
 abbrev pub ended : List ℕ → List (List ℕ)

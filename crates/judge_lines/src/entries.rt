@@ -1,4 +1,4 @@
-ghost use Rattle.std.specs.Prelude.{◌≡◌, ◌+◌, ◌≤◌, OnOk};
+ghost use Rattle.std.specs.Prelude.{◌≡◌};
 ghost use Rattle.judge_lines.specs.Entries.{call_of, fields_of, entry_of};
 ghost use Rattle.judge_lines.specs.Reader.{Reads};
 
@@ -9,26 +9,24 @@ use super::{Entry, LineFault, Opening};
 use shelf::Request;
 
 fn read_call(call: Call, words: &mut Words) -> Result<Request, LineFault>
-    requires { words.old.place ≤ 100 }
-    ensures reads { Reads (call_of call) words.old words.new result }
-    ensures counted { OnOk result (words.new.place ≤ words.old.place + 7) }
+    ensures { Reads (call_of call) words.old words.new result }
 {
     let request = match call {
         Call::Receive => Request::Receive {
-            place: words.long()? as usize,
-            count: words.long()?,
+            place: words.read::<u32>()? as usize,
+            count: words.read()?,
         },
         Call::Pick => Request::Pick(read_case(words)?),
         Call::Order => Request::Order {
-            number: words.long()?,
-            place: words.long()? as usize,
+            number: words.read()?,
+            place: words.read::<u32>()? as usize,
         },
         Call::GiveBack => Request::GiveBack {
-            number: words.long()?,
-            place: words.long()? as usize,
+            number: words.read()?,
+            place: words.read::<u32>()? as usize,
         },
         Call::Place => Request::Place {
-            place: words.long()? as usize,
+            place: words.read::<u32>()? as usize,
         },
         Call::Places => Request::Places,
     };
@@ -36,14 +34,12 @@ fn read_call(call: Call, words: &mut Words) -> Result<Request, LineFault>
 }
 
 fn read_fields(head: Head, words: &mut Words) -> Result<Entry, LineFault>
-    requires { words.old.place ≤ 100 }
-    ensures reads { Reads (fields_of head) words.old words.new result }
-    ensures counted { OnOk result (words.new.place ≤ words.old.place + 8) }
+    ensures { Reads (fields_of head) words.old words.new result }
 {
     let entry = match head {
         Head::Opening(sort) => Entry::Opening(Opening {
             sort,
-            number: words.long()?,
+            number: words.read()?,
         }),
         Head::Item(kind) => Entry::Item(read_item(kind, words)?),
         Head::Call(call) => Entry::Call(read_call(call, words)?),
@@ -56,7 +52,7 @@ pub fn read_entry(line: &[u8]) -> Result<Entry, LineFault>
     ensures { result ≡ entry_of line.now }
 {
     let mut words = Words::new(line);
-    let head = words.head()?;
+    let head = words.read()?;
     let entry = read_fields(head, &mut words)?;
     words.end()?;
     Ok(entry)

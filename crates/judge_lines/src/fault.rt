@@ -1,7 +1,7 @@
 // Why a line cannot be read: the first word at fault, counted from 1, and what is wrong with it.
 #[derive(Clone, Copy, PartialEq, Eq, Debug)]
 pub struct LineFault {
-    pub word: u8,
+    pub word: usize,
     pub what: WordFault,
 }
 

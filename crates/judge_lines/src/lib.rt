@@ -5,6 +5,7 @@
 mod entries;
 mod entry;
 mod fault;
+mod field;
 mod heads;
 mod judgement;
 mod lines;

@@ -1,4 +1,4 @@
-ghost use Rattle.std.specs.Prelude.{◌≡◌, ◌+◌, ◌≤◌, OnOk};
+ghost use Rattle.std.specs.Prelude.{◌≡◌};
 ghost use Rattle.judge_lines.specs.Reader.{Reads};
 ghost use Rattle.judge_lines.specs.Records.{rectangle, circle, lamination, pad, item_of, case, judgement_of};
 
@@ -8,78 +8,64 @@ use super::{Item, Judgement, LineFault};
 use bearings::{Bearing, Pad, Plan};
 use rulebook::Case;
 
-// A line has 16 words at most, so that `place` stays far below what these functions allow.
-
 fn read_rectangle(words: &mut Words) -> Result<Plan, LineFault>
-    requires { words.old.place ≤ 200 }
-    ensures reads { Reads rectangle words.old words.new result }
-    ensures counted { OnOk result (words.new.place ≡ words.old.place + 2) }
+    ensures { Reads rectangle words.old words.new result }
 {
     Ok(Plan::Rectangle {
-        length: words.byte()?,
-        width: words.byte()?,
+        length: words.read()?,
+        width: words.read()?,
     })
 }
 
 fn read_circle(words: &mut Words) -> Result<Plan, LineFault>
-    requires { words.old.place ≤ 200 }
-    ensures reads { Reads circle words.old words.new result }
-    ensures counted { OnOk result (words.new.place ≡ words.old.place + 1) }
+    ensures { Reads circle words.old words.new result }
 {
     Ok(Plan::Circle {
-        diameter: words.byte()?,
+        diameter: words.read()?,
     })
 }
 
 fn read_lamination(plan: Plan, words: &mut Words) -> Result<Bearing, LineFault>
-    requires { words.old.place ≤ 200 }
-    ensures reads { Reads (lamination plan) words.old words.new result }
-    ensures counted { OnOk result (words.new.place ≡ words.old.place + 6) }
+    ensures { Reads (lamination plan) words.old words.new result }
 {
     Ok(Bearing {
         plan,
-        layers: words.byte()?,
-        thickness: words.byte()?,
-        cover: words.byte()?,
-        laminate: words.byte()?,
-        modulus: words.byte()?,
-        strength: words.byte()?,
+        layers: words.read()?,
+        thickness: words.read()?,
+        cover: words.read()?,
+        laminate: words.read()?,
+        modulus: words.read()?,
+        strength: words.read()?,
     })
 }
 
 fn read_pad(words: &mut Words) -> Result<Pad, LineFault>
-    requires { words.old.place ≤ 200 }
-    ensures reads { Reads pad words.old words.new result }
-    ensures counted { OnOk result (words.new.place ≡ words.old.place + 4) }
+    ensures { Reads pad words.old words.new result }
 {
     Ok(Pad {
-        length: words.byte()?,
-        width: words.byte()?,
-        thickness: words.byte()?,
-        modulus: words.byte()?,
+        length: words.read()?,
+        width: words.read()?,
+        thickness: words.read()?,
+        modulus: words.read()?,
     })
 }
 
 pub(crate) fn read_case(words: &mut Words) -> Result<Case, LineFault>
-    requires { words.old.place ≤ 200 }
-    ensures reads { Reads case words.old words.new result }
-    ensures counted { OnOk result (words.new.place ≡ words.old.place + 7) }
+    ensures { Reads case words.old words.new result }
 {
     Ok(Case {
-        dead: words.long()?,
-        live: words.long()?,
-        movement: words.short()?,
-        rotation_x: words.short()?,
-        rotation_z: words.short()?,
-        deck: words.byte()?,
-        shear: words.byte()?,
+        dead: words.read()?,
+        live: words.read()?,
+        movement: words.read()?,
+        rotation_x: words.read()?,
+        rotation_z: words.read()?,
+        deck: words.read()?,
+        shear: words.read()?,
     })
 }
 
 pub(crate) fn read_item(kind: Kind, words: &mut Words) -> Result<Item, LineFault>
-    requires { words.old.place ≤ 100 }
-    ensures reads { Reads (item_of kind) words.old words.new result }
-    ensures counted { OnOk result (words.new.place ≤ words.old.place + 8) }
+    ensures { Reads (item_of kind) words.old words.new result }
 {
     let plan = match kind {
         Kind::Rectangle => read_rectangle(words)?,
@@ -94,7 +80,7 @@ pub fn read_judgement(line: &[u8]) -> Result<Judgement, LineFault>
     ensures { result ≡ judgement_of line.now }
 {
     let mut words = Words::new(line);
-    let kind = words.kind()?;
+    let kind = words.read()?;
     let item = read_item(kind, &mut words)?;
     let case = read_case(&mut words)?;
     words.end()?;
