@@ -1,14 +1,14 @@
 -- Digits counted up one after the other.
-use Rattle.std.proofs.Common.{◌≡◌, ℕ, zero, suc, ◌+◌, ◌-◌, ◌*◌, ◌<◌, ◌≤◌, min, true, false, leb, List, [], ◌∷◌, ◌++◌, length, get_or, take, Ok, Err, sym, refl, ap, ◌∙◌, arith}
+use Rattle.std.proofs.Common.{◌≡◌, ℕ, zero, suc, ◌+◌, ◌-◌, ◌*◌, ◌<◌, min, true, false, List, [], ◌∷◌, ◌++◌, length, get_or, take, Err, sym, refl, arith}
 use Rattle.std.proofs.lemmas.Int.Digits.{digits_value_more}
-use Rattle.std.proofs.lemmas.List.{take_more, take_all}
-use Rattle.std.proofs.lemmas.Bool.{and_left, and_right, and_from, and_parts, cond-true, cond-false, lt-leb, le-leb}
+use Rattle.std.proofs.lemmas.List.{take_more}
+use Rattle.std.proofs.lemmas.Bool.{and_left, and_right, and_from, and_parts, cond-false}
 use Rattle.std.proofs.lemmas.Str.{digit_value_digit}
 use Rattle.std.specs.Str.Parse.{digits_value}
 use Rattle.std.specs.Char.{is_ascii_digit, IsAsciiDigit}
 use Rattle.std.specs.Str.{all_ascii_digits}
 use Rattle.judge_lines.specs.Numbers.{number_in}
-use Rattle.judge_lines.specs.declared.fault.WordFault.TheVariants.{NotANumber, TooLarge}
+use Rattle.judge_lines.specs.declared.fault.WordFault.TheVariants.{NotANumber}
 
 pub digits_not : (ds : List ℕ) (i : ℕ) → i < length ds → is_ascii_digit (get_or ds i 0) ≡ false → all_ascii_digits ds ≡ false
 digits_not [] i h e = absurd (omega arith)
@@ -30,25 +30,3 @@ counted_more ds i n most h e digit = omega (arith, digits_value_more 10 ds i h, 
 
 pub number_not : (largest : ℕ) (ds : List ℕ) (i : ℕ) → i < length ds → is_ascii_digit (get_or ds i 0) ≡ false → Err NotANumber ≡ number_in largest ds
 number_not largest ds i h e = sym (cond-false (all_ascii_digits ds) _ (Err NotANumber) (digits_not ds i h e))
-
--- what is counted at the end of the word, up to `most`
-pub record Counted (ds : List ℕ) (i n most : ℕ) : Type 0 where
-  pub all : length ds ≤ i
-  pub digits : all_ascii_digits (take i ds) ≡ true
-  pub count : n ≡ min (digits_value 10 (take i ds)) most
-
-counted_whole : (ds : List ℕ) (i n most : ℕ) → Counted ds i n most → (all_ascii_digits ds ≡ true) × (n ≡ min (digits_value 10 ds) most)
-counted_whole ds i n most h = let e = take_all i ds h.all in (rw e at h.digits, rw e at h.count)
-
-pub number_large : (largest : ℕ) (ds : List ℕ) (i n most : ℕ) → Counted ds i n most → largest < n → Err TooLarge ≡ number_in largest ds
-number_large largest ds i n most h large =
-    let whole = counted_whole ds i n most h in
-    let v = digits_value 10 ds in
-    sym (cond-true (all_ascii_digits ds) _ (Err NotANumber) whole.0 ∙ cond-false (leb v largest) (Ok v) (Err TooLarge) (lt-leb v largest (omega arith)))
-
-pub number_is : (largest : ℕ) (ds : List ℕ) (i n most : ℕ) → Counted ds i n most → largest < most → n ≤ largest → Ok n ≡ number_in largest ds
-number_is largest ds i n most h room small =
-    let whole = counted_whole ds i n most h in
-    let v = digits_value 10 ds in
-    let same : n ≡ v = omega arith in
-    ap Ok same ∙ sym (cond-true (all_ascii_digits ds) _ (Err NotANumber) whole.0 ∙ cond-true (leb v largest) (Ok v) (Err TooLarge) (le-leb v largest (omega arith)))

@@ -45,12 +45,12 @@ ended_is [] h = absurd (omega arith)
 ended_is (b ∷ bs) h = refl
 
 -- the step of the reader, where nothing but blanks is left
-pub none_left : (bs : List ℕ) → prefix_len blank bs ≡ length bs → words bs ≡ []
-none_left bs e = words_past_blanks bs ∙ ap words (drop_all (prefix_len blank bs) bs (omega arith))
+pub no_word : (bs : List ℕ) → prefix_len blank bs ≡ length bs → words bs ≡ []
+no_word bs e = words_past_blanks bs ∙ ap words (drop_all (prefix_len blank bs) bs (omega arith))
 
 -- and where a word of `size` bytes follows `before` blanks
-pub next_word : (bs : List ℕ) (before size : ℕ) → prefix_len blank bs ≡ before → before < length bs → let at = take (length bs - before) (drop before bs) in position_or_len blank at ≡ size → (words bs ≡ take size at ∷ words (take (length at - size) (drop size at))) × (length (take (length at - size) (drop size at)) < length bs)
-next_word bs before size b h s =
+pub word_cut : (bs : List ℕ) (before size : ℕ) → prefix_len blank bs ≡ before → before < length bs → let at = take (length bs - before) (drop before bs) in position_or_len blank at ≡ size → (words bs ≡ take size at ∷ words (take (length at - size) (drop size at))) × (length (take (length at - size) (drop size at)) < length bs)
+word_cut bs before size b h s =
     let at = take (length bs - before) (drop before bs) in
     let same : at ≡ drop before bs = take_rest bs before in
     let other : ℕ → Bool = λ b. not (blank b) in
