@@ -8,13 +8,6 @@ use super::entry::{Call, Head, Sort};
 use super::field::Field;
 use super::judgement::Kind;
 
-// The whole text at once: patterns of bytes would branch at every byte.
-fn is(word: &[u8], text: &str) -> bool
-    ensures { result ≡ bytes_eq word.now text.now }
-{
-    word == text.as_bytes()
-}
-
 impl Field for Kind {
     ghost meaning = { kind_in };
 
@@ -32,18 +25,17 @@ impl Field for Head {
     ghost meaning = { head_in };
 
     fn read(word: &[u8]) -> Result<Head, WordFault> {
-        let head = match word {
-            _ if is(word, "bearings") => Head::Opening(Sort::Bearings),
-            _ if is(word, "pads") => Head::Opening(Sort::Pads),
-            _ if is(word, "range") => Head::Opening(Sort::Range),
-            _ if is(word, "receive") => Head::Call(Call::Receive),
-            _ if is(word, "pick") => Head::Call(Call::Pick),
-            _ if is(word, "order") => Head::Call(Call::Order),
-            _ if is(word, "return") => Head::Call(Call::GiveBack),
-            _ if is(word, "place") => Head::Call(Call::Place),
-            _ if is(word, "places") => Head::Call(Call::Places),
-            _ => Head::Item(Kind::read(word)?),
-        };
-        Ok(head)
+        match str::from_utf8(word) {
+            Ok("bearings") => Ok(Head::Opening(Sort::Bearings)),
+            Ok("pads") => Ok(Head::Opening(Sort::Pads)),
+            Ok("range") => Ok(Head::Opening(Sort::Range)),
+            Ok("receive") => Ok(Head::Call(Call::Receive)),
+            Ok("pick") => Ok(Head::Call(Call::Pick)),
+            Ok("order") => Ok(Head::Call(Call::Order)),
+            Ok("return") => Ok(Head::Call(Call::GiveBack)),
+            Ok("place") => Ok(Head::Call(Call::Place)),
+            Ok("places") => Ok(Head::Call(Call::Places)),
+            _ => Kind::read(word).map(Head::Item),
+        }
     }
 }
