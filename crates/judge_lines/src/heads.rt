@@ -1,7 +1,5 @@
-ghost use Rattle.std.specs.Str.{bytes_eq};
 ghost use Rattle.judge_lines.specs.Entries.{head_in};
 ghost use Rattle.judge_lines.specs.Records.{kind_in};
-ghost use Rattle.std.specs.Prelude.{◌≡◌};
 
 use super::WordFault;
 use super::entry::{Call, Head, Sort};
