@@ -1,46 +1,59 @@
-ghost use Rattle.judging.specs.Answers.{bearing_judged, pad_judged, item_judged, answer_to};
+ghost use Rattle.judging.specs.Answers.{articles_of, findings, item_judged, answer_to};
 ghost use Rattle.std.specs.Prelude.{◌≡◌};
 
-use super::Answer;
+use super::{Judged, NoVerdict};
 use bearings::{Bearing, Pad};
 use judge_lines::{Item, read_judgement};
 use pads::PadBook;
-use rulebook::{Case, Refusal, RuleBook};
+use rulebook::{Case, Refusal, RuleBook, Verdict};
 use section14::Section14;
 
-fn judge_bearing(bearing: &Bearing, case: &Case) -> Result<Answer, Refusal>
-    ensures { result ≡ bearing_judged bearing.now case.now }
-{
-    let verdict = Section14.verdict(bearing, case)?;
-    let articles = section14::article_list(bearing, case)?;
-    Ok(Answer::Bearing(verdict, articles))
+// A book of N articles, which can be asked of each whether it holds.
+trait ListsArticles<const N: usize>: RuleBook {
+    fn article_list(&self, item: &Self::Item, case: &Case) -> Result<[bool; N], Refusal>
+        ensures { result ≡ articles_of (Self.rules self.now) item.now case.now };
 }
 
-fn judge_pad(pad: &Pad, case: &Case) -> Result<Answer, Refusal>
-    ensures { result ≡ pad_judged pad.now case.now }
-{
-    let verdict = PadBook.verdict(pad, case)?;
-    let articles = pads::article_list(pad, case)?;
-    Ok(Answer::Pad(verdict, articles))
+impl ListsArticles<6> for Section14 {
+    fn article_list(&self, item: &Bearing, case: &Case) -> Result<[bool; 6], Refusal> {
+        section14::article_list(item, case)
+    }
 }
 
-fn judge_item(item: &Item, case: &Case) -> Result<Answer, Refusal>
+impl ListsArticles<4> for PadBook {
+    fn article_list(&self, item: &Pad, case: &Case) -> Result<[bool; 4], Refusal> {
+        pads::article_list(item, case)
+    }
+}
+
+fn judge<const N: usize, B: ListsArticles<N>>(
+    book: &B,
+    item: &B::Item,
+    case: &Case,
+) -> Result<(Verdict, [bool; N]), Refusal>
+    ensures { result ≡ findings (B.rules book.now) item.now case.now }
+{
+    Ok((book.verdict(item, case)?, book.article_list(item, case)?))
+}
+
+fn judge_item(item: &Item, case: &Case) -> Result<Judged, Refusal>
     ensures { result ≡ item_judged item.now case.now }
 {
     match item {
-        Item::Bearing(bearing) => judge_bearing(bearing, case),
-        Item::Pad(pad) => judge_pad(pad, case),
+        Item::Bearing(bearing) => {
+            let (verdict, articles) = judge(&Section14, bearing, case)?;
+            Ok(Judged::Bearing(verdict, articles))
+        }
+        Item::Pad(pad) => {
+            let (verdict, articles) = judge(&PadBook, pad, case)?;
+            Ok(Judged::Pad(verdict, articles))
+        }
     }
 }
 
-pub fn answer_to(line: &[u8]) -> Answer
+pub fn answer_to(line: &[u8]) -> Result<Judged, NoVerdict>
     ensures { result ≡ answer_to line.now }
 {
-    match read_judgement(line) {
-        Err(fault) => Answer::NoJudgement(fault),
-        Ok(judgement) => match judge_item(&judgement.item, &judgement.case) {
-            Err(why) => Answer::Refused(why),
-            Ok(answer) => answer,
-        },
-    }
+    let judgement = read_judgement(line)?;
+    Ok(judge_item(&judgement.item, &judgement.case)?)
 }

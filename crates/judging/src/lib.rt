@@ -7,7 +7,7 @@ mod answering;
 mod lines;
 mod texts;
 
-pub use answer::Answer;
+pub use answer::{Judged, NoVerdict};
 pub use answering::answer_to;
 pub use lines::answers;
 

@@ -1,15 +1,21 @@
-ghost use Rattle.judging.specs.Texts.{answer_text, verdict_text, held_text};
+ghost use Rattle.judging.specs.Texts.{held_text, verdict_text, judged_text, no_verdict_text};
 ghost use Rattle.section14.specs.Book.{section14_names};
-ghost use Rattle.std.specs.Prelude.{◌≡◌, Some};
+ghost use Rattle.std.specs.Prelude.{Some};
 
-use super::Answer;
+use super::{Judged, NoVerdict};
 use rulebook::Verdict;
 use std::fmt;
 
-fn held_text(held: bool) -> &'static str
-    ensures { result.now ≡ held_text held }
-{
-    if held { "held" } else { "violated" }
+// How an article came out.
+#[derive(Clone, Copy)]
+struct Held(bool);
+
+impl fmt::Display for Held {
+    ghost output = { λ held. Some (held_text held.0) };
+
+    fn fmt<W: fmt::Write>(&self, f: &mut fmt::Formatter<W>) -> fmt::Result {
+        f.write_str(if self.0 { "held" } else { "violated" })
+    }
 }
 
 // The verdict, and the first three articles, which have the same names in both books.
@@ -23,45 +29,56 @@ impl fmt::Display for Shared {
     ghost output = { λ shared. Some (verdict_text section14_names shared.verdict shared.articles) };
 
     fn fmt<W: fmt::Write>(&self, f: &mut fmt::Formatter<W>) -> fmt::Result {
-        let number = self.verdict.number();
-        let compression = held_text(self.articles[0]);
-        let shear = held_text(self.articles[1]);
-        let uplift = held_text(self.articles[2]);
+        let [compression, shear, uplift] = self.articles;
         write!(
             f,
-            "verdict {number}: compression {compression}, shear {shear}, uplift {uplift}"
+            "verdict {}: compression {}, shear {}, uplift {}",
+            self.verdict.number(),
+            Held(compression),
+            Held(shear),
+            Held(uplift)
         )
     }
 }
 
-impl fmt::Display for Answer {
-    ghost output = { λ answer. Some (answer_text answer) };
+impl fmt::Display for Judged {
+    ghost output = { λ judged. Some (judged_text judged) };
 
     fn fmt<W: fmt::Write>(&self, f: &mut fmt::Formatter<W>) -> fmt::Result {
         match self {
-            Answer::NoJudgement(fault) => write!(f, "no judgement: {fault}"),
-            Answer::Refused(why) => { write!(f, "{why}") }
-            Answer::Bearing(verdict, articles) => {
+            Judged::Bearing(verdict, articles) => {
+                let [compression, shear, uplift, rotation, buckling, steel] = *articles;
                 let shared = Shared {
                     verdict: *verdict,
-                    articles: [articles[0], articles[1], articles[2]],
+                    articles: [compression, shear, uplift],
                 };
-                let rotation = held_text(articles[3]);
-                let buckling = held_text(articles[4]);
-                let steel = held_text(articles[5]);
                 write!(
                     f,
-                    "{shared}, rotation {rotation}, buckling {buckling}, steel {steel}"
+                    "{shared}, rotation {}, buckling {}, steel {}",
+                    Held(rotation),
+                    Held(buckling),
+                    Held(steel)
                 )
             }
-            Answer::Pad(verdict, articles) => {
+            Judged::Pad(verdict, articles) => {
+                let [compression, shear, uplift, stability] = *articles;
                 let shared = Shared {
                     verdict: *verdict,
-                    articles: [articles[0], articles[1], articles[2]],
+                    articles: [compression, shear, uplift],
                 };
-                let stability = held_text(articles[3]);
-                write!(f, "{shared}, stability {stability}")
+                write!(f, "{shared}, stability {}", Held(stability))
             }
+        }
+    }
+}
+
+impl fmt::Display for NoVerdict {
+    ghost output = { λ why. Some (no_verdict_text why) };
+
+    fn fmt<W: fmt::Write>(&self, f: &mut fmt::Formatter<W>) -> fmt::Result {
+        match self {
+            NoVerdict::NoJudgement(fault) => write!(f, "no judgement: {fault}"),
+            NoVerdict::Refused(refusal) => write!(f, "{refusal}"),
         }
     }
 }

@@ -1,9 +1,8 @@
-use Rattle.std.proofs.Common.{◌≡◌, ◌++◌, length, string_bytes}
-use Rattle.judging.specs.Texts.{answers_text}
+use Rattle.std.proofs.Common.{◌≡◌, ◌++◌, string_bytes}
+use Rattle.judging.specs.Texts.{answers_text, line_text}
+use Rattle.judge_lines.specs.Lines.{lines_of}
+use Rattle.std.specs.List.{flat_map}
 use Rattle.judging.proofs.lines.answers.Given as goal
 
-abbrev pub invariant-loop-rest : goal.invariant-loop-rest
-invariant-loop-rest l = string_bytes l.text ++ answers_text l.rest ≡ answers_text l.input
-
-abbrev pub decreases-loop-rest : goal.decreases-loop-rest
-decreases-loop-rest l = length l.rest
+abbrev pub invariant-loop-line : goal.invariant-loop-line
+invariant-loop-line l = string_bytes l.text ++ flat_map line_text (lines_of l.line-iterator.rest.now) ≡ answers_text l.input
