@@ -1,3 +1,2 @@
 pub mod Faulty
-pub mod Joining
 pub mod Parting

@@ -1,9 +1,8 @@
 -- What the lines of a section hold.
-use Rattle.std.specs.Prelude.{List, [], ◌∷◌, Some, None, Ok, Err, Option, Result}
+use Rattle.std.specs.Prelude.{Some, None, Ok, Err, Option, Result}
 use Rattle.bearings.specs.declared.bearing.Bearing.{Bearing}
 use Rattle.bearings.specs.declared.pad.Pad.{Pad}
 use Rattle.shelf.specs.declared.request.Request.{Request}
-use Rattle.std.specs.List.{flat_map}
 use Rattle.judge_lines.specs.declared.entry.Entry.{Entry}
 use Rattle.judge_lines.specs.declared.entry.Entry.TheVariants as entry
 use Rattle.judge_lines.specs.declared.fault.LineFault.{LineFault}
@@ -32,11 +31,3 @@ request_in (Ok (entry.Item i)) = None
 request_in (Ok (entry.Opening sort number)) = None
 request_in (Ok (entry.Call call)) = Some call
 request_in (Err fault) = None
-
-abbrev pub listed : {T : Type 0} → Option T → List T
-listed None = []
-listed (Some one) = one ∷ []
-
--- all that the lines hold of one kind, in their order
-abbrev pub found : {T : Type 0} → (Line → Option T) → List Line → List T
-found part lines = flat_map (λ line. listed (part line)) lines

@@ -9,6 +9,7 @@ use Rattle.judge_lines.specs.declared.judgement.Item.{Item}
 use Rattle.judge_lines.specs.declared.judgement.Item.TheVariants as item
 use Rattle.day_sections.specs.Collecting.{Line}
 use Rattle.day_sections.specs.declared.section.Before.{Before}
+use Rattle.day_sections.specs.declared.section.Before.TheVariants.{Nothing, Items, Calls}
 use Rattle.day_sections.specs.declared.section.SectionFault.{SectionFault}
 use Rattle.day_sections.specs.declared.section.SectionFault.TheVariants.{Word, OutOfOrder}
 
@@ -16,24 +17,33 @@ abbrev pub rectangular : Plan → Bool
 rectangular (Rectangle length width) = true
 rectangular (Circle diameter) = false
 
--- whether a shelf of the sort takes the item: a list of bearings takes bearings, one of pads takes pads, and a range takes one rectangular bearing;
--- `filled` says that items stand before it
-abbrev pub takes : Sort → (filled : Bool) → Item → Bool
-takes Bearings filled (item.Bearing b) = true
-takes Bearings filled (item.Pad p) = false
-takes Pads filled (item.Bearing b) = false
-takes Pads filled (item.Pad p) = true
-takes Range filled (item.Bearing b) = not filled && rectangular b.plan
-takes Range filled (item.Pad p) = false
+-- whether nothing stands before a line, and whether calls do
+abbrev pub first : Before → Bool
+first Nothing = true
+first Items = false
+first Calls = false
+
+abbrev pub called : Before → Bool
+called Nothing = false
+called Items = false
+called Calls = true
+
+-- whether a shelf of the sort takes the item: a list of bearings takes bearings, one of pads takes pads, and a range takes one rectangular bearing
+abbrev pub takes : Sort → Before → Item → Bool
+takes Bearings before (item.Bearing b) = true
+takes Bearings before (item.Pad p) = false
+takes Pads before (item.Bearing b) = false
+takes Pads before (item.Pad p) = true
+takes Range before (item.Bearing b) = first before && rectangular b.plan
+takes Range before (item.Pad p) = false
 
 -- what stands before the next line; or what is wrong with this one: it can't be read, it is an item that the shelf does not take or that stands behind
 -- a call, or an opening
 abbrev pub behind_line : Sort → Before → Line → Result Before SectionFault
 behind_line sort before (Err fault) = Err (Word fault)
 behind_line sort before (Ok (entry.Opening s number)) = Err OutOfOrder
-behind_line sort before (Ok (entry.Item i)) =
-    cond (before.called || not (takes sort before.filled i)) (Err OutOfOrder) (Ok (record { filled = true; called = before.called }))
-behind_line sort before (Ok (entry.Call call)) = Ok (record { filled = before.filled; called = true })
+behind_line sort before (Ok (entry.Item i)) = cond (called before || not (takes sort before i)) (Err OutOfOrder) (Ok Items)
+behind_line sort before (Ok (entry.Call call)) = Ok Calls
 
 -- a line at fault, and what is wrong with it
 abbrev pub Fault : Type 0
@@ -51,4 +61,4 @@ fault_from sort before n (line ∷ lines) = fault_at n (behind_line sort before 
 
 -- the first fault of the lines behind an opening, the first of which is the line 0
 abbrev pub fault_of : Sort → List Line → Option Fault
-fault_of sort lines = fault_from sort (record { filled = false; called = false }) 0 lines
+fault_of sort lines = fault_from sort Nothing 0 lines

@@ -1,4 +1,5 @@
-ghost use Rattle.day_sections.specs.Collecting.{Line, bearing_in, pad_in, request_in, found};
+ghost use Rattle.day_sections.specs.Collecting.{Line, bearing_in, pad_in, request_in};
+ghost use Rattle.std.specs.List.{filter_map};
 ghost use Rattle.std.specs.Prelude.{◌≡◌, IfOk, Option};
 
 use bearings::{Bearing, Pad};
@@ -52,13 +53,10 @@ pub fn collected<T: InLine>(
     heap: Global,
     lines: &[Result<Entry, LineFault>],
 ) -> Result<Vec<T>, AllocError>
-    ensures { IfOk result (λ all. all.items ≡ found T.InLine.part lines.now) }
+    ensures { IfOk result (λ all. all.items ≡ filter_map T.InLine.part lines.now) }
 {
-    let mut all = Vec::new(heap);
-    for line in lines {
-        if let Some(one) = T::in_line(line) {
-            all.push(one)?;
-        }
-    }
-    Ok(all)
+    lines
+        .iter()
+        .filter_map(|line| T::in_line(line))
+        .collect(heap)
 }

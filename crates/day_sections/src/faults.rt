@@ -6,29 +6,22 @@ use super::section::Before;
 use bearings::Plan;
 use judge_lines::{Entry, Item, LineFault, Sort};
 
-fn is_rectangle(plan: &Plan) -> bool
-    ensures { result ≡ rectangular plan.now }
+fn is_rectangle(plan: Plan) -> bool
+    ensures { result ≡ rectangular plan }
 {
-    match plan {
-        Plan::Rectangle {
-            length: _,
-            width: _,
-        } => true,
-        Plan::Circle { diameter: _ } => false,
-    }
+    matches!(plan, Plan::Rectangle { .. })
 }
 
-// Whether a shelf of the sort takes the item; `filled` says that items stand before it.
-fn takes_item(sort: Sort, filled: bool, item: &Item) -> bool
-    ensures { result ≡ takes sort filled item.now }
+// Whether a shelf of the sort takes the item behind what stands before it, calls aside.
+fn takes_item(sort: Sort, before: Before, item: Item) -> bool
+    ensures { result ≡ takes sort before item }
 {
     match (sort, item) {
-        (Sort::Bearings, Item::Bearing(_)) => true,
-        (Sort::Bearings, Item::Pad(_)) => false,
-        (Sort::Pads, Item::Bearing(_)) => false,
-        (Sort::Pads, Item::Pad(_)) => true,
-        (Sort::Range, Item::Bearing(bearing)) => !filled && is_rectangle(&bearing.plan),
-        (Sort::Range, Item::Pad(_)) => false,
+        (Sort::Bearings, Item::Bearing(_)) | (Sort::Pads, Item::Pad(_)) => true,
+        (Sort::Range, Item::Bearing(bearing)) => {
+            before == Before::Nothing && is_rectangle(bearing.plan)
+        }
+        _ => false,
     }
 }
 
@@ -40,23 +33,12 @@ fn behind(
 ) -> Result<Before, SectionFault>
     ensures { result ≡ behind_line sort before line.now }
 {
-    match line {
-        Err(fault) => Err(SectionFault::Word(*fault)),
-        Ok(Entry::Opening { sort: _, number: _ }) => Err(SectionFault::OutOfOrder),
-        Ok(Entry::Item(item)) => {
-            if before.called || !takes_item(sort, before.filled, item) {
-                Err(SectionFault::OutOfOrder)
-            } else {
-                Ok(Before {
-                    filled: true,
-                    called: before.called,
-                })
-            }
+    match (*line)? {
+        Entry::Item(item) if before != Before::Calls && takes_item(sort, before, item) => {
+            Ok(Before::Items)
         }
-        Ok(Entry::Call(_)) => Ok(Before {
-            filled: before.filled,
-            called: true,
-        }),
+        Entry::Call(_) => Ok(Before::Calls),
+        Entry::Item(_) | Entry::Opening { .. } => Err(SectionFault::OutOfOrder),
     }
 }
 
@@ -65,10 +47,7 @@ pub fn fault_in(lines: &[Result<Entry, LineFault>], sort: Sort) -> Option<(usize
     ensures is { result ≡ fault_of sort lines.now }
     ensures within { IfSome result (λ fault. fault.0 < length lines.now) }
 {
-    let mut before = Before {
-        filled: false,
-        called: false,
-    };
+    let mut before = Before::Nothing;
     for (i, line) in lines.iter().enumerate() {
         match behind(line, sort, before) {
             Ok(after) => before = after,

@@ -1,3 +1,6 @@
+ghost use Rattle.day_sections.specs.declared.section.SectionFault.TheVariants.{Word};
+ghost use Rattle.std.specs.Prelude.{◌≡◌};
+
 use judge_lines::LineFault;
 
 // Why a section opens no shelf: its first line at fault, counted from 1 over the whole input, and what is wrong with it.
@@ -15,11 +18,20 @@ pub enum SectionFault {
     OutOfOrder,
 }
 
+impl From<LineFault> for SectionFault {
+    ghost from_gives = { λ fault what. what ≡ Word fault };
+
+    fn from(fault: LineFault) -> SectionFault {
+        SectionFault::Word(fault)
+    }
+}
+
 // What stands between an opening and a line of its section.
-#[derive(Clone, Copy)]
-pub(crate) struct Before {
-    // an item
-    pub(crate) filled: bool,
-    // a call
-    pub(crate) called: bool,
+#[derive(Clone, Copy, PartialEq, Eq, Debug)]
+pub(crate) enum Before {
+    Nothing,
+    // items alone
+    Items,
+    // calls, behind what items there are
+    Calls,
 }

@@ -7,12 +7,7 @@ use judge_lines::{Entry, LineFault};
 fn is_opening(line: &Result<Entry, LineFault>) -> bool
     ensures { result ≡ opens line.now }
 {
-    match line {
-        Ok(Entry::Opening { sort: _, number: _ }) => true,
-        Ok(Entry::Item(_)) => false,
-        Ok(Entry::Call(_)) => false,
-        Err(_) => false,
-    }
+    matches!(line, Ok(Entry::Opening { .. }))
 }
 
 // How many lines stand before the first opening.
@@ -20,12 +15,7 @@ fn lines_before_opening(lines: &[Result<Entry, LineFault>]) -> usize
     ensures is { result ≡ prefix_len goes_on lines.now }
     ensures within { result ≤ length lines.now }
 {
-    for (i, line) in lines.iter().enumerate() {
-        if is_opening(line) {
-            return i;
-        }
-    }
-    lines.len()
+    lines.iter().take_while(|line| !is_opening(line)).count()
 }
 
 // The first section, which is the first line and what follows before the next opening, and the lines behind it.
@@ -35,9 +25,8 @@ pub fn first_section(
     ensures section { result.0.now ≡ take (section_length lines.now) lines.now }
     ensures rest { result.1.now ≡ drop (section_length lines.now) lines.now }
 {
-    if lines.is_empty() {
-        return (lines, lines);
+    match lines.split_first() {
+        None => (lines, lines),
+        Some((_, behind)) => lines.split_at(1 + lines_before_opening(behind)),
     }
-    let length = 1 + lines_before_opening(&lines[1..]);
-    (&lines[0..length], &lines[length..])
 }

@@ -1,8 +1,8 @@
 -- The text that answers the sections of a text of shelves.
 use Rattle.std.specs.Prelude.{◌≡◌, ℕ, ◌+◌, cond, ◌⊎◌, List, [], ◌∷◌, ◌++◌, map, length, Some, None, Ok, Err, codes, Option, Result, ◌==◌}
-use Rattle.std.specs.List.{flat_map}
+use Rattle.std.specs.List.{filter_map, flat_map}
 use Rattle.bearings.specs.declared.bearing.Bearing.{Bearing}
-use Rattle.day_sections.specs.Collecting.{Line, bearing_in, pad_in, request_in, found}
+use Rattle.day_sections.specs.Collecting.{Line, bearing_in, pad_in, request_in}
 use Rattle.day_sections.specs.Faults.{Fault, fault_of}
 use Rattle.day_sections.specs.Texts.{no_shelf_text}
 use Rattle.day_sections.specs.declared.section.NoShelf.{NoShelf}
@@ -58,9 +58,9 @@ RangeTextSays number (b ∷ bs) calls text =
 
 -- the text of a section without a fault, by the lines behind its opening
 abbrev pub ShelfSays : Sort → ℕ → List Line → List ℕ → Type 0
-ShelfSays Bearings number lines text = ListSays section14_rules item.Bearing number (found bearing_in lines) (found request_in lines) text
-ShelfSays Pads number lines text = ListSays pad_rules item.Pad number (found pad_in lines) (found request_in lines) text
-ShelfSays Range number lines text = RangeTextSays number (found bearing_in lines) (found request_in lines) text
+ShelfSays Bearings number lines text = ListSays section14_rules item.Bearing number (filter_map bearing_in lines) (filter_map request_in lines) text
+ShelfSays Pads number lines text = ListSays pad_rules item.Pad number (filter_map pad_in lines) (filter_map request_in lines) text
+ShelfSays Range number lines text = RangeTextSays number (filter_map bearing_in lines) (filter_map request_in lines) text
 
 -- the text of a section behind its opening, where the line behind that has the number n: the line of its first fault, or the text of its shelf
 abbrev pub SectionBy : Option Fault → Sort → ℕ → (n : ℕ) → List Line → List ℕ → Type 0
