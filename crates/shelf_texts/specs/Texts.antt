@@ -1,12 +1,13 @@
 -- The texts of items and answers.
-use Rattle.std.specs.Prelude.{ℕ, List, ◌++◌, codes, decimal}
+use Rattle.std.specs.Prelude.{ℕ, List, ◌++◌, Ok, Err, codes, decimal}
 use Rattle.bearings.specs.declared.bearing.Bearing.{Bearing}
 use Rattle.bearings.specs.declared.bearing.Plan.{Plan}
 use Rattle.bearings.specs.declared.bearing.Plan.TheVariants.{Rectangle, Circle}
 use Rattle.bearings.specs.declared.pad.Pad.{Pad}
 use Rattle.rulebook.specs.Refusals.{refusal_text}
-use Rattle.shelf.specs.declared.answer.Answer.{Answer}
-use Rattle.shelf.specs.declared.answer.Answer.TheVariants.{Refused, Done, Picked, Shown, Counted}
+use Rattle.shelf.specs.Answers.{Answer}
+use Rattle.shelf.specs.declared.answer.Granted.{Granted}
+use Rattle.shelf.specs.declared.answer.Granted.TheVariants.{Done, Picked, Shown, Counted}
 use Rattle.shelf.specs.declared.answer.Places.{Places}
 use Rattle.judge_lines.specs.declared.judgement.Item.{Item}
 use Rattle.judge_lines.specs.declared.judgement.Item.TheVariants as item
@@ -37,26 +38,22 @@ abbrev pub item_text : Item → List ℕ
 item_text (item.Bearing b) = bearing_text b.plan b
 item_text (item.Pad p) = pad_text p
 
-abbrev pub answer_text : Answer Item → List ℕ
-answer_text (Refused why) = refusal_text why
-answer_text Done = codes "done"
-answer_text (Picked number place) = codes "slip: shelf " ++ (decimal number ++ (codes ", place " ++ decimal place))
-answer_text (Shown place) =
-    codes "place: " ++ (item_text place.item
+-- what is granted, where `written` is the item that a line can write
+abbrev pub granted_text : {I : Type 0} → (written : I → Item) → Granted I → List ℕ
+granted_text written Done = codes "done"
+granted_text written (Picked number place) = codes "slip: shelf " ++ (decimal number ++ (codes ", place " ++ decimal place))
+granted_text written (Shown place) =
+    codes "place: " ++ (item_text (written place.item)
     ++ (codes ", on hand " ++ (decimal place.on_hand
     ++ (codes ", out " ++ decimal place.out))))
-answer_text (Counted places) = codes "places: " ++ (decimal places.count ++ (codes ", shelf " ++ decimal places.number))
+granted_text written (Counted places) = codes "places: " ++ (decimal places.count ++ (codes ", shelf " ++ decimal places.number))
+
+abbrev pub answer_text : {I : Type 0} → (written : I → Item) → Answer I → List ℕ
+answer_text written (Ok granted) = granted_text written granted
+answer_text written (Err why) = refusal_text why
 
 abbrev pub opened_text : Places → List ℕ
 opened_text places = codes "opened: shelf " ++ (decimal places.number ++ (codes ", " ++ (decimal places.count ++ codes " places")))
 
--- the same answer, with the item as one that a line can write
-abbrev pub answer_of : {I : Type 0} → (I → Item) → Answer I → Answer Item
-answer_of written (Refused why) = Refused why
-answer_of written Done = Done
-answer_of written (Picked number place) = Picked number place
-answer_of written (Shown place) = Shown (record { item = written place.item; on_hand = place.on_hand; out = place.out })
-answer_of written (Counted places) = Counted places
-
-abbrev pub answer_line : {I : Type 0} → (I → Item) → Answer I → List ℕ
-answer_line written answer = answer_text (answer_of written answer) ++ codes "\n"
+abbrev pub answer_line : {I : Type 0} → (written : I → Item) → Answer I → List ℕ
+answer_line written answer = answer_text written answer ++ codes "\n"

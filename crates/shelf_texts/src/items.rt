@@ -5,7 +5,7 @@ ghost use Rattle.std.specs.Prelude.{◌≡◌};
 use bearings::{Bearing, Pad};
 use judge_lines::Item;
 
-// A kind of item that a line can write.
+// A kind of item that a line can write. No `Into<Item>`: its contract is a relation, and what is said of a text names the written item, as `written` does.
 pub trait AsItem: Copy {
     ghost written: { Self → Item };
 
@@ -26,5 +26,13 @@ impl AsItem for Pad {
 
     fn as_item(self) -> Item {
         Item::Pad(self)
+    }
+}
+
+impl AsItem for Item {
+    ghost written = { λ item. item };
+
+    fn as_item(self) -> Self {
+        self
     }
 }

@@ -1,9 +1,10 @@
 ghost use Rattle.shelf_texts.specs.Texts.{lamination_text, item_text, answer_text, opened_text};
 ghost use Rattle.std.specs.Prelude.{Some};
 
-use bearings::{Bearing, Plan};
+use super::AsItem;
+use bearings::{Bearing, Pad, Plan};
 use judge_lines::Item;
-use shelf::{Answer, Places};
+use shelf::{Answer, Granted, Place, Places};
 use std::fmt;
 
 // The fields of a bearing behind those of its plan.
@@ -14,12 +15,15 @@ impl fmt::Display for LaminationText {
     ghost output = { λ text. Some (lamination_text text.0) };
 
     fn fmt<W: fmt::Write>(&self, f: &mut fmt::Formatter<W>) -> fmt::Result {
-        let layers = self.0.layers;
-        let thickness = self.0.thickness;
-        let cover = self.0.cover;
-        let laminate = self.0.laminate;
-        let modulus = self.0.modulus;
-        let strength = self.0.strength;
+        let Bearing {
+            plan: _,
+            layers,
+            thickness,
+            cover,
+            laminate,
+            modulus,
+            strength,
+        } = self.0;
         write!(
             f,
             "{layers} {thickness} {cover} {laminate} {modulus} {strength}"
@@ -45,40 +49,39 @@ impl fmt::Display for ItemText {
                     Plan::Circle { diameter } => write!(f, "C {diameter} {lamination}"),
                 }
             }
-            Item::Pad(pad) => {
-                let length = pad.length;
-                let width = pad.width;
-                let thickness = pad.thickness;
-                let modulus = pad.modulus;
-                write!(f, "P {length} {width} {thickness} {modulus}")
-            }
+            Item::Pad(
+                Pad {
+                    length,
+                    width,
+                    thickness,
+                    modulus,
+                },
+            ) => write!(f, "P {length} {width} {thickness} {modulus}"),
         }
     }
 }
 
 // The answer to a call, as it is printed.
 #[derive(Clone, Copy)]
-pub struct AnswerText(pub Answer<Item>);
+pub struct AnswerText<I>(pub Answer<I>);
 
-impl fmt::Display for AnswerText {
-    ghost output = { λ text. Some (answer_text text.0) };
+impl<I: AsItem> fmt::Display for AnswerText<I> {
+    ghost output = { λ text. Some (answer_text I.AsItem.written text.0) };
 
     fn fmt<W: fmt::Write>(&self, f: &mut fmt::Formatter<W>) -> fmt::Result {
         match self.0 {
-            Answer::Refused(why) => write!(f, "{why}"),
-            Answer::Done => write!(f, "done"),
-            Answer::Picked { number, place } => write!(f, "slip: shelf {number}, place {place}"),
-            Answer::Shown(place) => {
-                let item = ItemText(place.item);
-                let on_hand = place.on_hand;
-                let out = place.out;
+            Ok(Granted::Done) => write!(f, "done"),
+            Ok(Granted::Picked { number, place }) => {
+                write!(f, "slip: shelf {number}, place {place}")
+            }
+            Ok(Granted::Shown(Place { item, on_hand, out })) => {
+                let item = ItemText(item.as_item());
                 write!(f, "place: {item}, on hand {on_hand}, out {out}")
             }
-            Answer::Counted(places) => {
-                let count = places.count;
-                let number = places.number;
+            Ok(Granted::Counted(Places { count, number })) => {
                 write!(f, "places: {count}, shelf {number}")
             }
+            Err(why) => write!(f, "{why}"),
         }
     }
 }
@@ -91,8 +94,7 @@ impl fmt::Display for OpenedText {
     ghost output = { λ text. Some (opened_text text.0) };
 
     fn fmt<W: fmt::Write>(&self, f: &mut fmt::Formatter<W>) -> fmt::Result {
-        let count = self.0.count;
-        let number = self.0.number;
+        let Places { count, number } = self.0;
         write!(f, "opened: shelf {number}, {count} places")
     }
 }
