@@ -1,5 +1,5 @@
 -- The first section of lines, and the sections behind it.
-use Rattle.std.proofs.Common.{◌≡◌, ℕ, suc, ◌+◌, ◌<◌, true, false, not, List, [], ◌∷◌, ◌++◌, length, take, drop, sym, refl, ap, ◌∙◌, ⊎_elim, append_assoc, append-nil, one-add, arith}
+use Rattle.std.proofs.Common.{◌≡◌, ℕ, suc, ◌+◌, ◌<◌, true, false, not, List, [], ◌∷◌, ◌++◌, length, take, drop, sym, refl, ap, ap₂, ◌∙◌, ⊎_elim, append_assoc, append-nil, one-add, arith}
 use Rattle.std.proofs.lemmas.List.{length-append, length-drop}
 use Rattle.std.proofs.lemmas.Bool.{cases_Bool, cond-true, cond-false}
 use Rattle.std.specs.List.{prefix_len}
@@ -48,6 +48,10 @@ sections_first [] h = absurd (omega arith)
 sections_first (line ∷ lines) h =
     let cut : ℕ → List (List Line) = λ n. take n (line ∷ lines) ∷ sections_of (drop n (line ∷ lines)) in
     opening_begins line lines ∙ section_ends (line ∷ []) lines (omega arith) ∙ ap cut (sym (one-add (prefix_len goes_on lines)))
+
+-- the same of what `first_section` answers
+pub sections_cut : (lines section rest : List Line) → 0 < length lines → section ≡ take (section_length lines) lines → rest ≡ drop (section_length lines) lines → sections_of lines ≡ section ∷ sections_of rest
+sections_cut lines section rest some s r = sections_first lines some ∙ sym (ap₂ (λ (x y : List Line). x ∷ sections_of y) s r)
 
 pub section_shorter : (lines rest : List Line) → 0 < length lines → rest ≡ drop (section_length lines) lines → length rest < length lines
 section_shorter lines rest some is = omega (arith, ap length is ∙ length-drop (section_length lines) lines, length_is lines some)

@@ -13,4 +13,4 @@ pub use collecting::{InLine, collected};
 pub use entries::read_lines;
 pub use faults::fault_in;
 pub use section::{NoShelf, SectionFault};
-pub use sections::first_section;
+pub use sections::{Sections, first_section};
