@@ -15,19 +15,19 @@ Line = Result Entry LineFault
 abbrev pub bearing_in : Line → Option Bearing
 bearing_in (Ok (entry.Item (item.Bearing b))) = Some b
 bearing_in (Ok (entry.Item (item.Pad p))) = None
-bearing_in (Ok (entry.Opening sort number)) = None
+bearing_in (Ok (entry.Opening opening)) = None
 bearing_in (Ok (entry.Call call)) = None
 bearing_in (Err fault) = None
 
 abbrev pub pad_in : Line → Option Pad
 pad_in (Ok (entry.Item (item.Bearing b))) = None
 pad_in (Ok (entry.Item (item.Pad p))) = Some p
-pad_in (Ok (entry.Opening sort number)) = None
+pad_in (Ok (entry.Opening opening)) = None
 pad_in (Ok (entry.Call call)) = None
 pad_in (Err fault) = None
 
 abbrev pub request_in : Line → Option Request
 request_in (Ok (entry.Item i)) = None
-request_in (Ok (entry.Opening sort number)) = None
+request_in (Ok (entry.Opening opening)) = None
 request_in (Ok (entry.Call call)) = Some call
 request_in (Err fault) = None

@@ -41,7 +41,7 @@ takes Range before (item.Pad p) = false
 -- a call, or an opening
 abbrev pub behind_line : Sort → Before → Line → Result Before SectionFault
 behind_line sort before (Err fault) = Err (Word fault)
-behind_line sort before (Ok (entry.Opening s number)) = Err OutOfOrder
+behind_line sort before (Ok (entry.Opening opening)) = Err OutOfOrder
 behind_line sort before (Ok (entry.Item i)) = cond (called before || not (takes sort before i)) (Err OutOfOrder) (Ok Items)
 behind_line sort before (Ok (entry.Call call)) = Ok Calls
 

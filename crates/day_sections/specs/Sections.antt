@@ -5,7 +5,7 @@ use Rattle.judge_lines.specs.declared.entry.Entry.TheVariants as entry
 use Rattle.day_sections.specs.Collecting.{Line}
 
 abbrev pub opens : Line → Bool
-opens (Ok (entry.Opening sort number)) = true
+opens (Ok (entry.Opening opening)) = true
 opens (Ok (entry.Item item)) = false
 opens (Ok (entry.Call call)) = false
 opens (Err fault) = false

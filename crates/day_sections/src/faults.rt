@@ -38,7 +38,7 @@ fn behind(
             Ok(Before::Items)
         }
         Entry::Call(_) => Ok(Before::Calls),
-        Entry::Item(_) | Entry::Opening { .. } => Err(SectionFault::OutOfOrder),
+        Entry::Item(_) | Entry::Opening(_) => Err(SectionFault::OutOfOrder),
     }
 }
 

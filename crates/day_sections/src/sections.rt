@@ -8,7 +8,7 @@ use judge_lines::{Entry, LineFault};
 fn is_opening(line: &Result<Entry, LineFault>) -> bool
     ensures { result ≡ opens line.now }
 {
-    matches!(line, Ok(Entry::Opening { .. }))
+    matches!(line, Ok(Entry::Opening(_)))
 }
 
 // How many lines stand before the first opening.
