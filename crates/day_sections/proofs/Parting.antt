@@ -1,8 +1,9 @@
 -- The first section of lines, and the sections behind it.
 use Rattle.std.proofs.Common.{◌≡◌, ℕ, suc, ◌+◌, ◌<◌, true, false, not, List, [], ◌∷◌, ◌++◌, length, take, drop, sym, refl, ap, ap₂, ◌∙◌, ⊎_elim, append_assoc, append-nil, one-add, arith}
+use Rattle.std.proofs.lemmas.List.Sums.{sum_by-append}
 use Rattle.std.proofs.lemmas.List.{length-append, length-drop}
 use Rattle.std.proofs.lemmas.Bool.{cases_Bool, cond-true, cond-false}
-use Rattle.std.specs.List.{prefix_len}
+use Rattle.std.specs.List.{prefix_len, sum_by}
 use Rattle.judge_lines.proofs.Cutting.{leading_yes, leading_no}
 use Rattle.day_sections.specs.Collecting.{Line}
 use Rattle.day_sections.specs.Sections.{opens, goes_on, ended, sections_after, sections_of, section_length}
@@ -53,5 +54,24 @@ sections_first (line ∷ lines) h =
 pub sections_cut : (lines section rest : List Line) → 0 < length lines → section ≡ take (section_length lines) lines → rest ≡ drop (section_length lines) lines → sections_of lines ≡ section ∷ sections_of rest
 sections_cut lines section rest some s r = sections_first lines some ∙ sym (ap₂ (λ (x y : List Line). x ∷ sections_of y) s r)
 
-pub section_shorter : (lines rest : List Line) → 0 < length lines → rest ≡ drop (section_length lines) lines → length rest < length lines
-section_shorter lines rest some is = omega (arith, ap length is ∙ length-drop (section_length lines) lines, length_is lines some)
+ended_length : (section : List Line) → sum_by length (ended section) ≡ length section
+ended_length [] = refl
+ended_length (line ∷ lines) = omega arith
+
+after_length : (section lines : List Line) → sum_by length (sections_after section lines) ≡ length section + length lines
+after_length section [] = omega (arith, ended_length section)
+after_length section (line ∷ lines) =
+    let opened = ended section ++ sections_after (line ∷ []) lines in
+    let longer = sections_after (section ++ (line ∷ [])) lines in
+    ⊎_elim
+    (λ (e : opens line ≡ true).
+    let whole : sum_by length opened ≡ length section + suc (length lines) = omega (arith, sum_by-append length (ended section) (sections_after (line ∷ []) lines), ended_length section, after_length (line ∷ []) lines) in
+    ap (sum_by length) (cond-true (opens line) opened longer e) ∙ whole)
+    (λ (e : opens line ≡ false).
+    let whole : sum_by length longer ≡ length section + suc (length lines) = omega (arith, after_length (section ++ (line ∷ [])) lines, length-append section (line ∷ [])) in
+    ap (sum_by length) (cond-false (opens line) opened longer e) ∙ whole)
+    (cases_Bool (opens line))
+
+-- the sections have all of the lines
+pub sections_length : (lines : List Line) → sum_by length (sections_of lines) ≡ length lines
+sections_length lines = omega (arith, after_length [] lines)

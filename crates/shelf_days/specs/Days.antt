@@ -13,15 +13,16 @@ use Rattle.pads.specs.Book.{pad_rules}
 use Rattle.range_shelf.specs.Range.{range_of, RangeOpenable, RangeSays}
 use Rattle.rulebook.specs.Books.{Rules}
 use Rattle.section14.specs.Book.{section14_rules}
+use Rattle.shelf.specs.Answers.{Answer}
 use Rattle.shelf.specs.Opening.{Openable, OpeningSays}
 use Rattle.shelf.specs.OpeningRefusals.{opening_text}
 use Rattle.shelf.specs.Stock.{Stock}
-use Rattle.shelf.specs.declared.answer.Answer.{Answer}
 use Rattle.shelf.specs.declared.opening.OpeningRefusal.{OpeningRefusal}
 use Rattle.shelf.specs.declared.opening.OpeningRefusal.TheVariants.{ItemCount, ShelfNumber}
 use Rattle.shelf.specs.declared.request.Request.{Request}
 use Rattle.shelf_texts.specs.Texts.{answer_line, opened_text}
 use Rattle.judge_lines.specs.declared.entry.Entry.TheVariants as entry
+use Rattle.judge_lines.specs.declared.entry.Opening.{Opening}
 use Rattle.judge_lines.specs.declared.entry.Sort.{Sort}
 use Rattle.judge_lines.specs.declared.entry.Sort.TheVariants.{Bearings, Pads, Range}
 use Rattle.judge_lines.specs.declared.judgement.Item.{Item}
@@ -62,26 +63,32 @@ ShelfSays Bearings number lines text = ListSays section14_rules item.Bearing num
 ShelfSays Pads number lines text = ListSays pad_rules item.Pad number (filter_map pad_in lines) (filter_map request_in lines) text
 ShelfSays Range number lines text = RangeTextSays number (filter_map bearing_in lines) (filter_map request_in lines) text
 
--- the text of a section behind its opening, where the line behind that has the number n: the line of its first fault, or the text of its shelf
-abbrev pub SectionBy : Option Fault → Sort → ℕ → (n : ℕ) → List Line → List ℕ → Type 0
-SectionBy (Some fault) sort number n lines text = text ≡ fault_line (record { line = n + fault.0; what = fault.1 })
-SectionBy None sort number n lines text = ShelfSays sort number lines text
-
--- the sort and number of the shelf that the first line of a section opens, or what is wrong with that line
-abbrev pub opening_of : Line → Result (Sort × ℕ) SectionFault
-opening_of (Ok (entry.Opening sort number)) = Ok (sort, number)
+-- the opening that the first line of a section is, or what is wrong with that line
+abbrev pub opening_of : Line → Result Opening SectionFault
+opening_of (Ok (entry.Opening opening)) = Ok opening
 opening_of (Ok (entry.Item i)) = Err OutOfOrder
 opening_of (Ok (entry.Call call)) = Err OutOfOrder
 opening_of (Err fault) = Err (Word fault)
 
-abbrev pub SectionFrom : Result (Sort × ℕ) SectionFault → ℕ → List Line → List ℕ → Type 0
-SectionFrom (Ok opening) n lines text = SectionBy (fault_of opening.0 lines) opening.0 opening.1 (n + 1) lines text
-SectionFrom (Err what) n lines text = text ≡ fault_line (record { line = n; what = what })
+-- an opening, or the first fault of the lines behind it, where the line behind it has the number n
+abbrev pub unless_at_fault : Opening → (n : ℕ) → Option Fault → Result Opening NoShelf
+unless_at_fault opening n None = Ok opening
+unless_at_fault opening n (Some fault) = Err (record { line = n + fault.0; what = fault.1 })
+
+-- the same by the first line of a section, which has the number n, and the lines behind it
+abbrev pub opened_by : (n : ℕ) → Result Opening SectionFault → List Line → Result Opening NoShelf
+opened_by n (Ok opening) lines = unless_at_fault opening (n + 1) (fault_of opening.sort lines)
+opened_by n (Err what) lines = Err (record { line = n; what = what })
+
+-- the text of a section by its opening and the lines behind it: that of its shelf; or the line of its first fault
+abbrev pub SectionBy : Result Opening NoShelf → List Line → List ℕ → Type 0
+SectionBy (Ok opening) lines text = ShelfSays opening.sort opening.number lines text
+SectionBy (Err fault) lines text = text ≡ fault_line fault
 
 -- the text of a section whose first line has the number n
-abbrev pub SectionSays : ℕ → List Line → List ℕ → Type 0
+abbrev pub SectionSays : (n : ℕ) → List Line → List ℕ → Type 0
 SectionSays n [] text = text ≡ []
-SectionSays n (line ∷ lines) text = SectionFrom (opening_of line) n lines text
+SectionSays n (line ∷ lines) text = SectionBy (opened_by n (opening_of line) lines) lines text
 
 -- the text of sections whose first line has the number n: that of each, in their order
 abbrev pub DaySays : ℕ → List (List Line) → List ℕ → Type 0

@@ -1,80 +1,59 @@
-ghost use Rattle.std.specs.Prelude.{◌≡◌, ◌+◌, ◌^◌, ◌<◌, ◌≤◌, map, length, IfOk, string_bytes};
-ghost use Rattle.day_sections.specs.Faults.{fault_of};
+ghost use Rattle.std.specs.Prelude.{◌≡◌, ◌+◌, ◌^◌, ◌<◌, map, length, IfOk, string_bytes};
 ghost use Rattle.day_sections.specs.Sections.{sections_of};
-ghost use Rattle.shelf_days.specs.Days.{ShelfSays, opening_of, SectionBy, SectionSays, DaySays, fault_line};
+ghost use Rattle.shelf_days.specs.Days.{ShelfSays, opening_of, opened_by, SectionSays, DaySays};
 ghost use Rattle.judge_lines.specs.Entries.{entry_of};
 ghost use Rattle.judge_lines.specs.Lines.{lines_of};
 
 use super::shelves::{list_text, range_text};
-use bearings::{Bearing, Pad};
-use day_sections::{NoShelf, SectionFault, collected, fault_in, first_section, read_lines};
-use judge_lines::{Entry, LineFault, Sort};
+use day_sections::{NoShelf, SectionFault, Sections, collected, fault_in, read_lines};
+use judge_lines::{Entry, LineFault, Opening, Sort};
 use pads::PadBook;
 use section14::Section14;
-use shelf::Request;
 use std::alloc::{AllocError, Global};
 
-// The text of a section without a fault, by the lines behind its opening.
-fn shelf_text(
-    heap: Global,
-    sort: Sort,
-    number: u32,
-    lines: &[Result<Entry, LineFault>],
-) -> Result<String, AllocError>
-    ensures { IfOk result (λ text. ShelfSays sort number lines.now (string_bytes text)) }
-{
-    let calls = collected::<Request>(heap, lines)?;
-    match sort {
-        Sort::Bearings => {
-            let items = collected::<Bearing>(heap, lines)?;
-            list_text(heap, &Section14, number, items.as_slice(), calls.as_slice())
-        }
-        Sort::Pads => {
-            let items = collected::<Pad>(heap, lines)?;
-            list_text(heap, &PadBook, number, items.as_slice(), calls.as_slice())
-        }
-        Sort::Range => {
-            let items = collected::<Bearing>(heap, lines)?;
-            range_text(heap, number, items.as_slice(), calls.as_slice())
-        }
-    }
-}
-
-fn fault_text(heap: Global, fault: NoShelf) -> Result<String, AllocError>
-    ensures { IfOk result (λ text. string_bytes text ≡ fault_line fault) }
-{
-    format!(in heap; "{fault}\n")
-}
-
-// The text of a section by its opening and the lines behind it, the first of which has the number `first`.
-fn opened_text(
-    heap: Global,
-    sort: Sort,
-    number: u32,
-    first: usize,
-    lines: &[Result<Entry, LineFault>],
-) -> Result<String, AllocError>
-    requires { first + length lines.now ≤ 2 ^ 64 }
-    ensures { IfOk result (λ text. SectionBy (fault_of sort lines.now) sort number first lines.now (string_bytes text)) }
-{
-    match fault_in(lines, sort) {
-        None => shelf_text(heap, sort, number, lines),
-        Some((line, what)) => {
-            let line = first + line;
-            fault_text(heap, NoShelf { line, what })
-        }
-    }
-}
-
-// The sort and number of the shelf that the first line of a section opens, or what is wrong with that line.
-fn opening_in(line: &Result<Entry, LineFault>) -> Result<(Sort, u32), SectionFault>
+// The opening that the first line of a section is, or what is wrong with that line.
+fn opening_in(line: &Result<Entry, LineFault>) -> Result<Opening, SectionFault>
     ensures { result ≡ opening_of line.now }
 {
-    match line {
-        Ok(Entry::Opening { sort, number }) => Ok((*sort, *number)),
-        Ok(Entry::Item(_)) => Err(SectionFault::OutOfOrder),
-        Ok(Entry::Call(_)) => Err(SectionFault::OutOfOrder),
-        Err(fault) => Err(SectionFault::Word(*fault)),
+    match (*line)? {
+        Entry::Opening(opening) => Ok(opening),
+        Entry::Item(_) | Entry::Call(_) => Err(SectionFault::OutOfOrder),
+    }
+}
+
+// The opening of a section by its first line, which has the number `first`, and the lines behind it; or the first fault of them all.
+fn opened(
+    first: usize,
+    line: &Result<Entry, LineFault>,
+    behind: &[Result<Entry, LineFault>],
+) -> Result<Opening, NoShelf>
+    requires { first + length behind.now + 1 < 2 ^ 64 }
+    ensures { result ≡ opened_by first (opening_of line.now) behind.now }
+{
+    let opening = opening_in(line).map_err(|what| NoShelf { line: first, what })?;
+    match fault_in(behind, opening.sort) {
+        None => Ok(opening),
+        Some((line, what)) => {
+            let line = first + 1 + line;
+            Err(NoShelf { line, what })
+        }
+    }
+}
+
+// The text of a section without a fault, by its opening and the lines behind it.
+fn shelf_text(
+    heap: Global,
+    opening: Opening,
+    lines: &[Result<Entry, LineFault>],
+) -> Result<String, AllocError>
+    ensures { IfOk result (λ text. ShelfSays opening.sort opening.number lines.now (string_bytes text)) }
+{
+    let number = opening.number;
+    let calls = collected(heap, lines)?;
+    match opening.sort {
+        Sort::Bearings => list_text(heap, &Section14, number, &collected(heap, lines)?, &calls),
+        Sort::Pads => list_text(heap, &PadBook, number, &collected(heap, lines)?, &calls),
+        Sort::Range => range_text(heap, number, &collected(heap, lines)?, &calls),
     }
 }
 
@@ -87,12 +66,12 @@ fn section_text(
     requires { first + length section.now < 2 ^ 64 }
     ensures { IfOk result (λ text. SectionSays first section.now (string_bytes text)) }
 {
-    if section.is_empty() {
+    let Some((line, behind)) = section.split_first() else {
         return Ok(String::new(heap));
-    }
-    match opening_in(&section[0]) {
-        Ok((sort, number)) => opened_text(heap, sort, number, first + 1, &section[1..]),
-        Err(what) => fault_text(heap, NoShelf { line: first, what }),
+    };
+    match opened(first, line, behind) {
+        Ok(opening) => shelf_text(heap, opening, behind),
+        Err(fault) => format!(in heap; "{fault}\n"),
     }
 }
 
@@ -101,13 +80,11 @@ fn sections_text(heap: Global, lines: &[Result<Entry, LineFault>]) -> Result<Str
     ensures { IfOk result (λ text. DaySays 1 (sections_of lines.now) (string_bytes text)) }
 {
     let mut text = String::new(heap);
-    let mut rest = lines;
-    while !rest.is_empty() {
-        let (section, behind) = first_section(rest);
-        let first = lines.len() - rest.len() + 1;
+    let mut first = 1;
+    for section in Sections::new(lines) {
         let answered = section_text(heap, first, section)?;
         text.push_str(answered.as_str())?;
-        rest = behind;
+        first += section.len();
     }
     Ok(text)
 }

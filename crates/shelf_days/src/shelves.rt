@@ -56,11 +56,7 @@ fn slots_text<I: AsItem, B: RuleBook<Item = I>>(
 fn slots_of<I: Copy>(heap: Global, items: &[I]) -> Result<Vec<Slot<I>>, AllocError>
     ensures { IfOk result (λ slots. slot_items slots.items ≡ items.now) }
 {
-    let mut slots = Vec::new(heap);
-    for item in items {
-        slots.push(Slot::new(*item))?;
-    }
-    Ok(slots)
+    items.iter().map(|item| Slot::new(*item)).collect(heap)
 }
 
 // The same for a list of items.
@@ -86,18 +82,17 @@ pub(crate) fn range_text(
 ) -> Result<String, AllocError>
     ensures { IfOk result (λ text. RangeTextSays number bearings.now calls.now (string_bytes text)) }
 {
-    if bearings.is_empty() {
+    let Some(bearing) = bearings.first() else {
         let why = if number == 0 {
             OpeningRefusal::ShelfNumber
         } else {
             OpeningRefusal::ItemCount
         };
         return refused_text(heap, why);
-    }
-    let bearing = bearings[0];
-    if let Err(why) = RangeShelf::check(number, &bearing) {
+    };
+    if let Err(why) = RangeShelf::check(number, bearing) {
         return refused_text(heap, why);
     }
-    let mut shelf = RangeShelf::open(number, bearing);
+    let mut shelf = RangeShelf::open(number, *bearing);
     calls_text(heap, &Section14, &mut shelf, calls)
 }

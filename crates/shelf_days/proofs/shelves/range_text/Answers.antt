@@ -1,12 +1,18 @@
-use Rattle.judge_lines.proofs.LineCutting.{some_left}
 use Rattle.std.proofs.lemmas.Result.{IfOk-weaker}
-use Rattle.std.proofs.Common.{string_bytes}
-use Rattle.shelf_days.proofs.Sayings.{range_says}
+use Rattle.std.proofs.Common.{inl, string_bytes}
+use Rattle.shelf_days.proofs.Sayings.{first_says, range_says}
 use Rattle.shelf_days.proofs.shelves.range_text.Goals as goal
+
+pub returns-in-Err : goal.returns-in-Err
+returns-in-Err c =
+    IfOk-weaker c.refused_text-in-Err.result _ _
+    (λ text is. first_says c.args.number c.args.bearings.now c.in-Some.bearing.now c.args.calls.now (string_bytes text) c.in-Some.ensures.value (inl (c.in-Err.why, c.in-Err.ensures.says, is)))
+    c.refused_text-in-Err.ensures
 
 pub returns : goal.returns
 returns c =
-    let some = some_left c.args.bearings.now c.if-is_empty.ensures in
+    let bearing = c.in-Some.bearing.now in
     IfOk-weaker c.calls_text.result _ _
-    (λ text says. range_says c.args.number c.args.bearings.now _ _ c.args.calls.now (string_bytes text) some c.in_default.ensures.ok c.open-shelf.ensures.is says)
+    (λ text says. first_says c.args.number c.args.bearings.now bearing c.args.calls.now (string_bytes text) c.in-Some.ensures.value
+    (range_says c.args.number bearing _ c.args.calls.now (string_bytes text) c.in_default-check.ensures.ok c.open-shelf.ensures.is says))
     c.calls_text.ensures
