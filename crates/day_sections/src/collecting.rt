@@ -2,23 +2,24 @@ ghost use Rattle.day_sections.specs.Collecting.{Line, bearing_in, pad_in, reques
 ghost use Rattle.std.specs.List.{filter_map};
 ghost use Rattle.std.specs.Prelude.{◌≡◌, IfOk, Option};
 
+use super::Line;
 use bearings::{Bearing, Pad};
-use judge_lines::{Entry, Item, LineFault};
+use judge_lines::{Entry, Item};
 use shelf::Request;
 use std::alloc::{AllocError, Global};
 
-// What a line may hold.
+// What a line may hold. No `TryFrom<Entry>`: its contract is a relation, and what is collected is stated by the function `part`.
 pub trait InLine: Drop + Sized {
     ghost part: { Line → Option Self };
 
-    fn in_line(line: &Result<Entry, LineFault>) -> Option<Self>
+    fn in_line(line: &Line) -> Option<Self>
         ensures { result ≡ part line.now };
 }
 
 impl InLine for Bearing {
     ghost part = { bearing_in };
 
-    fn in_line(line: &Result<Entry, LineFault>) -> Option<Bearing> {
+    fn in_line(line: &Line) -> Option<Bearing> {
         match line {
             Ok(Entry::Item(Item::Bearing(bearing))) => Some(*bearing),
             _ => None,
@@ -29,7 +30,7 @@ impl InLine for Bearing {
 impl InLine for Pad {
     ghost part = { pad_in };
 
-    fn in_line(line: &Result<Entry, LineFault>) -> Option<Pad> {
+    fn in_line(line: &Line) -> Option<Pad> {
         match line {
             Ok(Entry::Item(Item::Pad(pad))) => Some(*pad),
             _ => None,
@@ -40,7 +41,7 @@ impl InLine for Pad {
 impl InLine for Request {
     ghost part = { request_in };
 
-    fn in_line(line: &Result<Entry, LineFault>) -> Option<Request> {
+    fn in_line(line: &Line) -> Option<Request> {
         match line {
             Ok(Entry::Call(request)) => Some(*request),
             _ => None,
@@ -49,10 +50,7 @@ impl InLine for Request {
 }
 
 // All that the lines hold of one kind, in their order.
-pub fn collected<T: InLine>(
-    heap: Global,
-    lines: &[Result<Entry, LineFault>],
-) -> Result<Vec<T>, AllocError>
+pub fn collected<T: InLine>(heap: Global, lines: &[Line]) -> Result<Vec<T>, AllocError>
     ensures { IfOk result (λ all. all.items ≡ filter_map T.InLine.part lines.now) }
 {
     lines

@@ -5,8 +5,11 @@ ghost use Rattle.judge_lines.specs.Lines.{lines_of};
 use judge_lines::{Entry, LineFault, Lines, read_entry};
 use std::alloc::{AllocError, Global};
 
-// The entry of each line, or its fault.
-pub fn read_lines(heap: Global, input: &[u8]) -> Result<Vec<Result<Entry, LineFault>>, AllocError>
+// A line that was read: its entry, or its fault.
+pub type Line = Result<Entry, LineFault>;
+
+// Each line of the input, read.
+pub fn read_lines(heap: Global, input: &[u8]) -> Result<Vec<Line>, AllocError>
     ensures { IfOk result (λ lines. lines.items ≡ map entry_of (lines_of input.now)) }
 {
     Lines::new(input).map(|line| read_entry(line)).collect(heap)

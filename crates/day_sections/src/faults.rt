@@ -1,10 +1,10 @@
 ghost use Rattle.std.specs.Prelude.{◌≡◌, ◌<◌, length, IfSome};
 ghost use Rattle.day_sections.specs.Faults.{rectangular, takes, behind_line, fault_of};
 
-use super::SectionFault;
 use super::section::Before;
+use super::{Line, SectionFault};
 use bearings::Plan;
-use judge_lines::{Entry, Item, LineFault, Sort};
+use judge_lines::{Entry, Item, Sort};
 
 fn is_rectangle(plan: Plan) -> bool
     ensures { result ≡ rectangular plan }
@@ -26,11 +26,7 @@ fn takes_item(sort: Sort, before: Before, item: Item) -> bool
 }
 
 // What stands before the next line, or what is wrong with this one.
-fn behind(
-    line: &Result<Entry, LineFault>,
-    sort: Sort,
-    before: Before,
-) -> Result<Before, SectionFault>
+fn behind(line: &Line, sort: Sort, before: Before) -> Result<Before, SectionFault>
     ensures { result ≡ behind_line sort before line.now }
 {
     match (*line)? {
@@ -43,7 +39,7 @@ fn behind(
 }
 
 // The first fault of the lines behind an opening: the line, counted from 0, and what is wrong with it.
-pub fn fault_in(lines: &[Result<Entry, LineFault>], sort: Sort) -> Option<(usize, SectionFault)>
+pub fn fault_in(lines: &[Line], sort: Sort) -> Option<(usize, SectionFault)>
     ensures is { result ≡ fault_of sort lines.now }
     ensures within { IfSome result (λ fault. fault.0 < length lines.now) }
 {

@@ -10,7 +10,7 @@ mod sections;
 mod texts;
 
 pub use collecting::{InLine, collected};
-pub use entries::read_lines;
+pub use entries::{Line, read_lines};
 pub use faults::fault_in;
 pub use section::{NoShelf, SectionFault};
 pub use sections::{Sections, first_section};

@@ -3,16 +3,17 @@ ghost use Rattle.day_sections.specs.Sections.{opens, goes_on, section_length, se
 ghost use Rattle.std.specs.Iterator.{YieldsFirstRef, item_count};
 ghost use Rattle.std.specs.List.{prefix_len};
 
-use judge_lines::{Entry, LineFault};
+use super::Line;
+use judge_lines::Entry;
 
-fn is_opening(line: &Result<Entry, LineFault>) -> bool
+fn is_opening(line: &Line) -> bool
     ensures { result ≡ opens line.now }
 {
     matches!(line, Ok(Entry::Opening(_)))
 }
 
 // How many lines stand before the first opening.
-fn lines_before_opening(lines: &[Result<Entry, LineFault>]) -> usize
+fn lines_before_opening(lines: &[Line]) -> usize
     ensures is { result ≡ prefix_len goes_on lines.now }
     ensures within { result ≤ length lines.now }
 {
@@ -20,9 +21,7 @@ fn lines_before_opening(lines: &[Result<Entry, LineFault>]) -> usize
 }
 
 // The first section, which is the first line and what follows before the next opening, and the lines behind it.
-pub fn first_section(
-    lines: &[Result<Entry, LineFault>],
-) -> (&[Result<Entry, LineFault>], &[Result<Entry, LineFault>])
+pub fn first_section(lines: &[Line]) -> (&[Line], &[Line])
     ensures section { result.0.now ≡ take (section_length lines.now) lines.now }
     ensures rest { result.1.now ≡ drop (section_length lines.now) lines.now }
 {
@@ -35,11 +34,11 @@ pub fn first_section(
 // The sections of lines, one after the other.
 #[derive(Drop)]
 pub struct Sections<'a> {
-    rest: &'a [Result<Entry, LineFault>],
+    rest: &'a [Line],
 }
 
 impl<'a> Sections<'a> {
-    pub fn new(lines: &'a [Result<Entry, LineFault>]) -> Sections<'a>
+    pub fn new(lines: &'a [Line]) -> Sections<'a>
         ensures { result.rest.now ≡ lines.now }
     {
         Sections { rest: lines }
@@ -47,14 +46,14 @@ impl<'a> Sections<'a> {
 }
 
 impl<'a> Iterator for Sections<'a> {
-    type Item = &'a [Result<Entry, LineFault>];
+    type Item = &'a [Line];
 
     ghost next_gives = { YieldsFirstRef (λ s. sections_of s.rest.now) };
 
     ghost remaining = { item_count (λ s. sections_of s.rest.now) };
 
     #[tactic(auto, using(crate::proofs::Parting::sections_cut))]
-    fn next(&mut self) -> Option<&'a [Result<Entry, LineFault>]> {
+    fn next(&mut self) -> Option<&'a [Line]> {
         if self.rest.is_empty() {
             return None;
         }

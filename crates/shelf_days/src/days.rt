@@ -5,14 +5,14 @@ ghost use Rattle.judge_lines.specs.Entries.{entry_of};
 ghost use Rattle.judge_lines.specs.Lines.{lines_of};
 
 use super::shelves::{list_text, range_text};
-use day_sections::{NoShelf, SectionFault, Sections, collected, fault_in, read_lines};
-use judge_lines::{Entry, LineFault, Opening, Sort};
+use day_sections::{Line, NoShelf, SectionFault, Sections, collected, fault_in, read_lines};
+use judge_lines::{Entry, Opening, Sort};
 use pads::PadBook;
 use section14::Section14;
 use std::alloc::{AllocError, Global};
 
 // The opening that the first line of a section is, or what is wrong with that line.
-fn opening_in(line: &Result<Entry, LineFault>) -> Result<Opening, SectionFault>
+fn opening_in(line: &Line) -> Result<Opening, SectionFault>
     ensures { result ≡ opening_of line.now }
 {
     match (*line)? {
@@ -22,11 +22,7 @@ fn opening_in(line: &Result<Entry, LineFault>) -> Result<Opening, SectionFault>
 }
 
 // The opening of a section by its first line, which has the number `first`, and the lines behind it; or the first fault of them all.
-fn opened(
-    first: usize,
-    line: &Result<Entry, LineFault>,
-    behind: &[Result<Entry, LineFault>],
-) -> Result<Opening, NoShelf>
+fn opened(first: usize, line: &Line, behind: &[Line]) -> Result<Opening, NoShelf>
     requires { first + length behind.now + 1 < 2 ^ 64 }
     ensures { result ≡ opened_by first (opening_of line.now) behind.now }
 {
@@ -41,11 +37,7 @@ fn opened(
 }
 
 // The text of a section without a fault, by its opening and the lines behind it.
-fn shelf_text(
-    heap: Global,
-    opening: Opening,
-    lines: &[Result<Entry, LineFault>],
-) -> Result<String, AllocError>
+fn shelf_text(heap: Global, opening: Opening, lines: &[Line]) -> Result<String, AllocError>
     ensures { IfOk result (λ text. ShelfSays opening.sort opening.number lines.now (string_bytes text)) }
 {
     let number = opening.number;
@@ -58,11 +50,7 @@ fn shelf_text(
 }
 
 // The text of a section whose first line has the number `first`.
-fn section_text(
-    heap: Global,
-    first: usize,
-    section: &[Result<Entry, LineFault>],
-) -> Result<String, AllocError>
+fn section_text(heap: Global, first: usize, section: &[Line]) -> Result<String, AllocError>
     requires { first + length section.now < 2 ^ 64 }
     ensures { IfOk result (λ text. SectionSays first section.now (string_bytes text)) }
 {
@@ -76,7 +64,7 @@ fn section_text(
 }
 
 // The text of each section, in their order.
-fn sections_text(heap: Global, lines: &[Result<Entry, LineFault>]) -> Result<String, AllocError>
+fn sections_text(heap: Global, lines: &[Line]) -> Result<String, AllocError>
     ensures { IfOk result (λ text. DaySays 1 (sections_of lines.now) (string_bytes text)) }
 {
     let mut text = String::new(heap);
