@@ -1,7 +1,18 @@
 -- The text of sections, one section on.
-use Rattle.std.proofs.Common.{◌≡◌, ℕ, ◌+◌, List, [], ◌∷◌, ◌++◌, length, sym, refl, subst, append_assoc, append-nil}
+use Rattle.std.proofs.Common.{◌≡◌, ℕ, ◌+◌, List, [], ◌∷◌, ◌++◌, length, ap, arith, ◌∙◌, sym, refl, subst, append_assoc, append-nil}
+use Rattle.std.proofs.lemmas.List.Sums.{sum_by-cons}
+use Rattle.std.specs.List.{sum_by}
+use Rattle.day_sections.proofs.Parting.{sections_length}
 use Rattle.day_sections.specs.Collecting.{Line}
+use Rattle.day_sections.specs.Sections.{sections_of}
 use Rattle.shelf_days.specs.Days.{SectionSays, DaySays}
+
+-- the number of the line behind a section
+pub numbered_start : (lines : List Line) (left : List (List Line)) → left ≡ sections_of lines → 1 + sum_by length left ≡ 1 + length lines
+numbered_start lines left same = omega (arith, ap (sum_by length) same ∙ sections_length lines)
+
+pub numbered_more : (n total : ℕ) (section : List Line) (old left : List (List Line)) → n + sum_by length old ≡ total → old ≡ section ∷ left → n + length section + sum_by length left ≡ total
+numbered_more n total section old left so cut = omega (arith, ap (sum_by length) cut ∙ sum_by-cons length section left)
 
 -- what is still to come makes the whole: the text so far, with whatever answers the sections left, the first line of which has the number n, answers all
 pub record Onward (n : ℕ) (left all : List (List Line)) (text : List ℕ) : Type 0 where

@@ -64,6 +64,7 @@ fn section_text(heap: Global, first: usize, section: &[Line]) -> Result<String, 
 }
 
 // The text of each section, in their order.
+#[tactic(auto, using(crate::proofs::Sectioned::numbered_start, crate::proofs::Sectioned::onward_start, crate::proofs::Sectioned::onward_end))]
 fn sections_text(heap: Global, lines: &[Line]) -> Result<String, AllocError>
     ensures { IfOk result (λ text. DaySays 1 (sections_of lines.now) (string_bytes text)) }
 {

@@ -13,6 +13,7 @@ use shelf_texts::{AsItem, OpenedText, answer_lines};
 use std::alloc::{AllocError, Global};
 
 // Makes the calls on a shelf that was just opened: the line of its opening, and a line for each answer.
+#[tactic(auto, using(crate::proofs::Sayings::calls_say))]
 fn calls_text<I: AsItem, B: RuleBook<Item = I>, S: Shelf<Item = I>>(
     heap: Global,
     book: &B,
@@ -36,7 +37,8 @@ fn refused_text(heap: Global, why: OpeningRefusal) -> Result<String, AllocError>
     format!(in heap; "{why}\n")
 }
 
-// Opens a list shelf over the slots, and makes the calls on it.
+// Opens a list shelf over the slots, and makes the calls on it. A range shelf answers a refusal by the same `if`: a function of the closure that opens
+// would need clauses on when it may be called and what it opens, and they are longer than that `if`.
 fn slots_text<I: AsItem, B: RuleBook<Item = I>>(
     heap: Global,
     book: &B,
@@ -74,6 +76,7 @@ pub(crate) fn list_text<I: AsItem, B: RuleBook<Item = I>>(
 }
 
 // Opens a range shelf from the first of the bearings, of which a section has at most one, and makes the calls on it.
+#[tactic(auto, using(crate::proofs::Sayings::first_says, crate::proofs::Sayings::range_says))]
 pub(crate) fn range_text(
     heap: Global,
     number: u32,
