@@ -76,7 +76,7 @@ pub(crate) fn list_text<I: AsItem, B: RuleBook<Item = I>>(
 }
 
 // Opens a range shelf from the first of the bearings, of which a section has at most one, and makes the calls on it.
-#[tactic(auto, using(crate::proofs::Sayings::first_says, crate::proofs::Sayings::range_says))]
+#[tactic(auto, using(crate::proofs::Sayings::first_says))]
 pub(crate) fn range_text(
     heap: Global,
     number: u32,

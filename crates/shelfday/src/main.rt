@@ -5,15 +5,11 @@
 use shelf_days::day;
 use std::io::Read;
 
-fn run(rt: &HostRuntime) -> anyhow::Result<()> {
+// `judge` has the same few steps around another function: one function over both would need a crate and a bound on the runtime for them.
+fn main(rt: HostRuntime) -> anyhow::Result<()> {
     let heap = rt.alloc();
     let mut input = Vec::new(heap);
     rt.stdin().read_to_end(&mut input)?;
-    let text = day(heap, input.as_slice())?;
-    rt.print(text.as_str())?;
+    print!(rt; "{}", day(heap, &input)?)?;
     Ok(())
-}
-
-fn main(rt: HostRuntime) -> anyhow::Result<()> {
-    run(&rt)
 }
