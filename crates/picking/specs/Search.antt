@@ -2,10 +2,10 @@
 use Rattle.std.specs.Prelude.{◌≡◌, ℕ, ◌<◌, ◌≢◌, List, Some, None, Option}
 use Rattle.rulebook.specs.Books.{Rules}
 use Rattle.rulebook.specs.declared.case.Case.{Case}
+use Rattle.rulebook.specs.declared.size.Size.{Size}
 use Rattle.shelf.specs.Choice.{Passes, Serves, Before, NoneServes, Best}
 use Rattle.shelf.specs.declared.answer.Place.{Place}
 use Rattle.picking.specs.declared.found.Found.{Found}
-use Rattle.picking.specs.declared.found.Size.{Size}
 
 -- no item on hand passes; or this place is the best
 abbrev pub BestSays : {I : Type 0} → Rules I → List I → (hand : ℕ → ℕ) → Case → Option ℕ → Type 0

@@ -1,9 +1,4 @@
-// What items are compared by: the height, and then the plan number.
-#[derive(Clone, Copy, PartialEq, Eq, PartialOrd, Ord)]
-pub(crate) struct Size {
-    pub(crate) height: u32,
-    pub(crate) plan_number: u32,
-}
+use rulebook::Size;
 
 // The best place so far.
 #[derive(Clone, Copy)]

@@ -2,8 +2,8 @@ ghost use Rattle.std.specs.Prelude.{◌≡◌, ◌+◌, ◌<◌, length, MatchOp
 ghost use Rattle.picking.specs.Search.{PlaceServes, SizeOf, FoundBelow, BestSays};
 ghost use Rattle.shelf.specs.Stock.{layout, on_hand};
 
-use super::found::{Found, Size};
-use rulebook::{Case, RuleBook, item_passes};
+use super::found::Found;
+use rulebook::{Case, RuleBook, Size, item_passes};
 use shelf::{Place, Shelf};
 
 // The size of an item that is on hand and passes.
@@ -16,10 +16,7 @@ fn serving_size<B: RuleBook>(book: &B, place: &Place<B::Item>, case: &Case) -> O
     if !item_passes(book, &place.item, case) {
         return None;
     }
-    Some(Size {
-        height: book.height(&place.item).ok()?,
-        plan_number: book.plan_number(&place.item).ok()?,
-    })
+    book.size(&place.item).ok()
 }
 
 // The best place up to `place`, by the best one before it. A book, a shelf and a case are lent by three owners for one call, and so stay three parameters.
