@@ -10,7 +10,7 @@ use Rattle.bearings.specs.declared.bearing.Bearing.{Bearing}
 use Rattle.shelf.specs.Stock.{recounted}
 use Rattle.shelf.specs.declared.answer.Place.{Place}
 use Rattle.shelf.specs.declared.counts.Counts.{Counts}
-use Rattle.range_shelf.specs.Range.{layered, with_layers, range_place, range_of, hand_at, gone_at, range_places}
+use Rattle.range_shelf.specs.Range.{layered, counted_place, range_place, range_of, hand_at, gone_at, range_places}
 
 module _ (b : Bearing) (hand gone : ℕ → ℕ) where
   pub range_length : length (range_of b hand gone) ≡ b.layers
@@ -27,14 +27,14 @@ module _ (b : Bearing) (hand gone : ℕ → ℕ) where
 
 -- the place k, by the counts that are read there
 pub place_read : (b : Bearing) (counts : List Counts) (k : ℕ) (d : Counts) → k < b.layers → k < length counts
-    → slice_get (range_places b counts) k ≡ Some (with_layers b k (get_or counts k d))
+    → slice_get (range_places b counts) k ≡ Some (counted_place b k (get_or counts k d))
 place_read b counts k d lt stored =
     range_at b (hand_at counts) (gone_at counts) k lt
     ∙ ap₂ (λ (h o : ℕ). Some (record { item = layered b (k + 1); on_hand = h; out = o })) (get_or-map (λ (c : Counts). c.on_hand) counts k d 0 stored) (get_or-map (λ (c : Counts). c.out) counts k d 0 stored)
 
 -- the same, by the counts that are found among those of the places
 pub place_found : (b : Bearing) (counts : List Counts) (k : ℕ) (found : Option (Bor Counts)) → b.layers ≤ length counts → IsItemAt (take b.layers counts) k found
-    → slice_get (range_places b counts) k ≡ option_map (with_layers b k) (option_copied found)
+    → slice_get (range_places b counts) k ≡ option_map (counted_place b k) (option_copied found)
 place_found b counts k None enough read =
     let n = length-take-le b.layers counts enough in
     let off : length (take b.layers counts) ≤ k = read.3 in
@@ -42,7 +42,7 @@ place_found b counts k None enough read =
 place_found b counts k (Some c) enough read =
     let n = length-take-le b.layers counts enough in
     let lt : k < length (take b.layers counts) = read.3.0 in
-    place_read b counts k c.now (omega arith) (omega arith) ∙ ap (λ (d : Counts). Some (with_layers b k d)) (sym (read.1 ∙ get_or-take b.layers counts k c.now (omega arith)))
+    place_read b counts k c.now (omega arith) (omega arith) ∙ ap (λ (d : Counts). Some (counted_place b k d)) (sym (read.1 ∙ get_or-take b.layers counts k c.now (omega arith)))
 
 module _ {I : Type 0} (f g : ℕ → Place I) where
   same_from : (a n : ℕ) → ((i : ℕ) → a ≤ i → g i ≡ f i) → map g (range_with_len a n) ≡ map f (range_with_len a n)

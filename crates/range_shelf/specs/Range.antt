@@ -28,8 +28,8 @@ abbrev pub range_place : Bearing → (hand gone : ℕ → ℕ) → ℕ → Place
 range_place b hand gone i = record { item = layered b (i + 1); on_hand = hand i; out = gone i }
 
 -- the same, by its own counts
-abbrev pub with_layers : Bearing → ℕ → Counts → Place Bearing
-with_layers b i counts = record { item = layered b (i + 1); on_hand = counts.on_hand; out = counts.out }
+abbrev pub counted_place : Bearing → ℕ → Counts → Place Bearing
+counted_place b i counts = record { item = layered b (i + 1); on_hand = counts.on_hand; out = counts.out }
 
 -- a place for each number of layers from 1 to the bearing's own
 abbrev pub range_of : Bearing → (hand gone : ℕ → ℕ) → List (Place Bearing)

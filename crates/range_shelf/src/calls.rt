@@ -1,4 +1,4 @@
-ghost use Rattle.range_shelf.specs.Range.{range_stock, with_layers};
+ghost use Rattle.range_shelf.specs.Range.{range_stock, counted_place};
 ghost use Rattle.std.specs.List.{slice_get};
 ghost use Rattle.std.specs.Option.{option_map};
 ghost use Rattle.std.specs.Prelude.{◌≡◌, ◌<◌, IfSome};
@@ -11,7 +11,7 @@ use shelf::{Change, Counts, Place, Places, Shelf};
 impl RangeShelf {
     // The counts of a place of the shelf.
     fn counts_at(&self, place: usize) -> Option<Counts>
-        ensures stands { slice_get (range_stock self.now).places place ≡ option_map (with_layers self.now.bearing place) result }
+        ensures stands { slice_get (range_stock self.now).places place ≡ option_map (counted_place self.now.bearing place) result }
         ensures within { IfSome result (λ _. place < self.now.bearing.layers) }
     {
         let used = &self.counts[..self.bearing.layers as usize];
