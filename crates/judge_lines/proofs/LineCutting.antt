@@ -1,6 +1,6 @@
 -- What is left of the lines of an input behind the first.
-use Rattle.std.proofs.Common.{◌≡◌, ℕ, suc, ◌+◌, ◌-◌, ◌<◌, true, false, eqb, List, [], ◌∷◌, ◌++◌, length, take, drop, sym, refl, ap, ◌∙◌, ⊎_elim, append_assoc, append-nil, add-one, arith, true-eqb, false-eqb}
-use Rattle.std.proofs.lemmas.List.{length-append, length-drop, take_rest, take_all, drop_all, nil_from_length}
+use Rattle.std.proofs.Common.{◌≡◌, ℕ, suc, ◌+◌, ◌-◌, ◌<◌, true, false, List, [], ◌∷◌, ◌++◌, length, take, drop, sym, refl, ap, ◌∙◌, ⊎_elim, append_assoc, append-nil, add-one, arith}
+use Rattle.std.proofs.lemmas.List.{length-append, take_rest, take_all, drop_all}
 use Rattle.std.proofs.lemmas.Bool.{cases_Bool, cond-true, cond-false}
 use Rattle.std.specs.List.{prefix_len}
 use Rattle.judge_lines.specs.Lines.{in_line, last_line, lines_after, lines_of}
@@ -26,16 +26,9 @@ part_ends part (b ∷ bs) h =
     cond-false (in_line b) (lines_after (part ++ (b ∷ [])) bs) (part ∷ lines_after [] bs) e ∙ here ∙ ap cut (sym (leading_no in_line b bs e)))
     (cases_Bool (in_line b))
 
--- the first line, and the lines behind it
-pub lines_first : (bs : List ℕ) → 0 < length bs → lines_of bs ≡ take (prefix_len in_line bs) bs ∷ lines_of (drop (prefix_len in_line bs + 1) bs)
-lines_first bs h = part_ends [] bs (omega arith) ∙ rw add-one
-
--- the same of what `first_line` answers
+-- the first line as `first_line` answers it, and the lines behind it
 pub lines_cut : (bs line rest : List ℕ) → 0 < length bs → line ≡ take (prefix_len in_line bs) bs → rest ≡ drop (prefix_len in_line bs + 1) bs → lines_of bs ≡ line ∷ lines_of rest
-lines_cut bs line rest some l r = lines_first bs some ∙ sym (rw (l, r))
-
-pub cut_shorter : (bs rest : List ℕ) → 0 < length bs → rest ≡ drop (prefix_len in_line bs + 1) bs → length rest < length bs
-cut_shorter bs rest some r = omega (arith, ap length r ∙ length-drop (prefix_len in_line bs + 1) bs)
+lines_cut bs line rest some l r = part_ends [] bs (omega arith) ∙ rw (l, r, add-one)
 
 -- what `first_line` cuts off at the place where the first newline stands
 pub cut_at : (bs : List ℕ) (end : ℕ) → prefix_len in_line bs ≡ end → (take end bs ≡ take (prefix_len in_line bs) bs) × (take (length bs - (end + 1)) (drop (end + 1) bs) ≡ drop (prefix_len in_line bs + 1) bs)
@@ -44,10 +37,3 @@ cut_at bs end e = (ap (λ n. take n bs) (sym e), take_rest bs (end + 1) ∙ ap (
 -- or at the end, where there is none
 pub whole : (bs : List ℕ) → prefix_len in_line bs ≡ length bs → (bs ≡ take (prefix_len in_line bs) bs) × ([] ≡ drop (prefix_len in_line bs + 1) bs)
 whole bs e = (sym (take_all (prefix_len in_line bs) bs (omega arith)), sym (drop_all (prefix_len in_line bs + 1) bs (omega arith)))
-
--- what a test for an empty list says
-pub some_left : {X : Type 0} (xs : List X) → false ≡ eqb (length xs) 0 → 0 < length xs
-some_left xs e = let none = false-eqb (length xs) 0 e in omega arith
-
-pub none_left : {X : Type 0} (xs : List X) → true ≡ eqb (length xs) 0 → xs ≡ []
-none_left xs e = nil_from_length xs (true-eqb (length xs) 0 e)

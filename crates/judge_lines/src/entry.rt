@@ -35,7 +35,7 @@ pub(crate) enum Call {
     Places,
 }
 
-// The first word of an entry, which says what follows.
+// The first word of an entry, which says what follows. It is a value of its own, since its fault comes before any of what follows.
 #[derive(Clone, Copy)]
 pub(crate) enum Head {
     Opening(Sort),

@@ -17,7 +17,7 @@ impl Field for u8 {
     ghost meaning = { number_in 255 };
 
     fn read(word: &[u8]) -> Result<u8, WordFault> {
-        Ok(read_number(word, u8::MAX as u32)? as u8)
+        Ok(read_number(word, u8::MAX.into())? as u8)
     }
 }
 
@@ -25,7 +25,7 @@ impl Field for u16 {
     ghost meaning = { number_in 65535 };
 
     fn read(word: &[u8]) -> Result<u16, WordFault> {
-        Ok(read_number(word, u16::MAX as u32)? as u16)
+        Ok(read_number(word, u16::MAX.into())? as u16)
     }
 }
 

@@ -9,5 +9,5 @@ returns-then-not-is_ascii_digit-clause-is c =
 pub loop-byte-preserved : goal.loop-byte-preserved
 loop-byte-preserved c = (
   digits_more c.args.word.now c.loop-byte.byte-index c.loop-byte-test.true c.loop-byte.invariant.0 (sym c.if-not-is_ascii_digit.ensures.value),
-  c.min-number.ensures ∙ counted_more c.args.word.now c.loop-byte.byte-index c.loop-byte.number 4294967296 c.loop-byte-test.true c.loop-byte.invariant.1 c.if-not-is_ascii_digit.ensures.cases,
+  c.min-number.ensures ∙ rw c.from.ensures (counted_more c.args.word.now c.loop-byte.byte-index c.loop-byte.number 4294967296 c.loop-byte-test.true c.loop-byte.invariant.1 c.if-not-is_ascii_digit.ensures.cases),
 )
