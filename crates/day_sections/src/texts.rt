@@ -8,8 +8,8 @@ impl fmt::Display for NoShelf {
     ghost output = { λ fault. Some (no_shelf_text fault) };
 
     fn fmt<W: fmt::Write>(&self, f: &mut fmt::Formatter<W>) -> fmt::Result {
-        let line = self.line;
-        match self.what {
+        let NoShelf { line, what } = *self;
+        match what {
             SectionFault::Word(fault) => write!(f, "no shelf: line {line}, {fault}"),
             SectionFault::OutOfOrder => write!(f, "no shelf: line {line} is out of order"),
         }
