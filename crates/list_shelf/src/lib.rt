@@ -5,5 +5,6 @@
 mod list;
 mod opening;
 mod slot;
+mod slots;
 
 pub use slot::{ListShelf, Slot};

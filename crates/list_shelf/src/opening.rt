@@ -2,6 +2,7 @@ ghost use Rattle.list_shelf.specs.Slots.{slot_items, stock_of, places_of, emptie
 ghost use Rattle.shelf.specs.Opening.{OpeningSays, Openable, Opened};
 ghost use Rattle.std.specs.Prelude.{◌≡◌, map, OnOk};
 
+use super::slots::clear;
 use super::{ListShelf, Slot};
 use rulebook::RuleBook;
 use shelf::{Counts, OpeningRefusal};
@@ -55,14 +56,5 @@ impl<'a, I: Copy> ListShelf<'a, I> {
     {
         clear(slots);
         ListShelf { number, slots }
-    }
-}
-
-// Sets the counts of every slot to 0.
-fn clear<I: Copy>(slots: &mut [Slot<I>])
-    ensures { places_of slots.new ≡ map emptied (places_of slots.old) }
-{
-    for slot in slots.iter_mut() {
-        slot.counts = Counts::none();
     }
 }

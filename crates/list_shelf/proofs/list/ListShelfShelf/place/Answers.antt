@@ -1,8 +1,4 @@
-use Rattle.shelf.proofs.Stepping.{shown_step}
-use Rattle.list_shelf.proofs.Table.{stands}
 use Rattle.list_shelf.proofs.list.ListShelfShelf.place.Goals as goal
 
 pub returns : goal.returns
-returns g c =
-    let read = rw c.in_ok-slot.ensures.ok_part at c.get.ensures.lookup in
-    shown_step _ _ _ (stands c.args.self.now.slots.now c.args.place c.in_ok-slot.slot.now read.3.0 read.1)
+returns g c = c.place_in.ensures _

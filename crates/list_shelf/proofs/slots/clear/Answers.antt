@@ -1,6 +1,6 @@
 use Rattle.std.proofs.Common.{arith}
 use Rattle.list_shelf.proofs.Table.{cleared_more}
-use Rattle.list_shelf.proofs.opening.clear.Goals as goal
+use Rattle.list_shelf.proofs.slots.clear.Goals as goal
 
 pub loop-slot-preserved : goal.loop-slot-preserved
 loop-slot-preserved g c =

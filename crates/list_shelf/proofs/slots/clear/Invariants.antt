@@ -1,5 +1,5 @@
 use Rattle.std.proofs.Common.{◌≡◌, ◌++◌, map, take, drop}
-use Rattle.list_shelf.proofs.opening.clear.Given as goal
+use Rattle.list_shelf.proofs.slots.clear.Given as goal
 use Rattle.list_shelf.specs.Slots.{places_of, emptied}
 
 abbrev pub invariant-loop-slot : goal.invariant-loop-slot
