@@ -2,7 +2,7 @@ ghost use Rattle.rulebook.specs.Books.{refusal_of, item_refusal, answered};
 ghost use Rattle.rulebook.specs.Refusals.{number_of};
 ghost use Rattle.std.specs.Prelude.{◌≡◌};
 
-use super::{Case, Size};
+use super::Case;
 
 // Why a call of a book or of a shelf is refused. Each case has a number of its own, by which users know it.
 #[derive(Clone, Copy, PartialEq, Eq, Debug)]
@@ -59,13 +59,13 @@ pub fn admit(outside: Option<u8>, case: &Case) -> Result<(), Refusal>
     Ok(())
 }
 
-// The size of an item whose first field outside its limits is `outside`, which is refused where there is one.
-pub fn measure(outside: Option<u8>, size: Size) -> Result<Size, Refusal>
-    ensures { result ≡ answered (item_refusal outside) size }
+// A measure of an item whose first field outside its limits is `outside`, which is refused where there is one.
+pub fn measure<T: Copy>(outside: Option<u8>, value: T) -> Result<T, Refusal>
+    ensures { result ≡ answered (item_refusal outside) value }
 {
     // no method of Option turns its value into the error more plainly
     match outside {
         Some(field) => Err(Refusal::Item { field }),
-        None => Ok(size),
+        None => Ok(value),
     }
 }

@@ -1,18 +1,15 @@
-ghost use Rattle.rulebook.specs.Refusals.{reason_text, refusal_text};
+ghost use Rattle.rulebook.specs.Refusals.{refusal_text};
 ghost use Rattle.std.specs.Prelude.{Some};
 
 use super::Refusal;
 use std::fmt;
 
-// Why something is refused, without its number.
-#[derive(Clone, Copy)]
-struct Reason(Refusal);
-
-impl fmt::Display for Reason {
-    ghost output = { λ reason. Some (reason_text reason.0) };
+impl fmt::Display for Refusal {
+    ghost output = { λ refusal. Some (refusal_text refusal) };
 
     fn fmt<W: fmt::Write>(&self, f: &mut fmt::Formatter<W>) -> fmt::Result {
-        match self.0 {
+        write!(f, "refused {}: ", self.number())?;
+        match self {
             Refusal::Item { field } => {
                 write!(f, "field {field} of the item is outside its limits")
             }
@@ -24,15 +21,5 @@ impl fmt::Display for Reason {
             Refusal::OtherShelf => write!(f, "the slip is of another shelf"),
             Refusal::NoneOut => write!(f, "the place is off the shelf or has none out"),
         }
-    }
-}
-
-impl fmt::Display for Refusal {
-    ghost output = { λ refusal. Some (refusal_text refusal) };
-
-    fn fmt<W: fmt::Write>(&self, f: &mut fmt::Formatter<W>) -> fmt::Result {
-        let number = self.number();
-        let reason = Reason(*self);
-        write!(f, "refused {number}: {reason}")
     }
 }
