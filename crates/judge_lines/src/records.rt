@@ -8,7 +8,7 @@ use super::{Item, Judgement, LineFault};
 use bearings::{Bearing, Pad, Plan};
 use rulebook::Case;
 
-// A function for each record: they differ in their fields, and half of them in what stands before those, so that a trait would only rename them.
+// A function for each record, and no trait: they differ in their fields, and some need what stands before those.
 
 fn read_rectangle(words: &mut Words) -> Result<Plan, LineFault>
     ensures { Reads rectangle words.old words.new result }

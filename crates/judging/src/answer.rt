@@ -2,7 +2,7 @@ use judge_lines::LineFault;
 use rulebook::{Refusal, Verdict};
 
 // What is said of an item under a case.
-#[derive(Clone, Copy)]
+#[derive(Clone, Copy, PartialEq, Eq, Debug)]
 pub enum Judged {
     // the verdict, and whether each article holds: compression, shear, uplift, rotation, buckling, steel
     Bearing(Verdict, [bool; 6]),
