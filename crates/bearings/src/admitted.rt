@@ -29,6 +29,7 @@ pub struct Admitted<I: Elastomeric> {
     ghost shape_area_small: { Range 1 form.shape_area.top 181760000 × Range 1 form.shape_area.bottom 43392 },
 }
 
+// Written out, as no derive gives it to a struct with ghost fields and a type parameter.
 impl<I: Elastomeric> Clone for Admitted<I> {
     ghost is_clone = { λ x y. y ≡ x };
 

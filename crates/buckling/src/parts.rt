@@ -7,7 +7,8 @@ pub struct WholeTerms {
     pub second: u64,
 }
 
-// The two terms as quotients, the first without its root; and the sides, in one unit, whose quotient stands under that root.
+// The two terms as quotients, the first without its root; and the sides, in one unit, whose quotient stands under that root. How large they are is said by
+// the functions that make them (`SmallParts`): the definitions name these quotients without a bound.
 #[derive(Clone, Copy)]
 pub(crate) struct Parts {
     pub(crate) first: Ratio,

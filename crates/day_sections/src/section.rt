@@ -10,6 +10,7 @@ pub struct NoShelf {
     pub what: SectionFault,
 }
 
+// An Option of a fault would have no name for the second cause.
 #[derive(Clone, Copy)]
 pub enum SectionFault {
     // the line can't be read

@@ -13,6 +13,8 @@ pub(crate) trait Field: Sized {
         ensures { result ≡ meaning word.now };
 }
 
+// One impl for each width: an impl for every number that `TryFrom<u32>` makes would overlap with those of `Kind` and `Head`.
+
 impl Field for u8 {
     ghost meaning = { number_in 255 };
 

@@ -71,6 +71,8 @@ impl RuleBook for PadBook {
 
     ghost measured = { λ b p within. let w = pad_within p within in (pad_height_fits p w, plan_fits (pad_plan p) w.sides_so) };
 
+    // A line or two for each call, written in every book, since a book has limits and a kind of item of its own.
+
     fn article_count(&self) -> u8 {
         Self::ARTICLES
     }

@@ -11,7 +11,7 @@ pub enum Verdict {
 }
 
 impl Verdict {
-    // 0 where every article holds, else the number of the first that does not.
+    // 0 where every article holds, else the number of the first that does not. By no `From`, as `verdict.number()` says which number is meant.
     pub fn number(&self) -> u8
         ensures { result ≡ verdict_number self.now }
     {

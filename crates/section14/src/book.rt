@@ -78,6 +78,8 @@ impl RuleBook for Section14 {
 
     ghost measured = { λ b i within. let w = bearing_within i within in (height_fits i w, plan_fits i.plan w.sides_so) };
 
+    // A line or two for each call, written in every book, since a book has limits and a kind of item of its own.
+
     fn article_count(&self) -> u8 {
         Self::ARTICLES
     }

@@ -1,6 +1,7 @@
 use rulebook::Refusal;
 
-// One place of a shelf: its item, how many are on hand there, and how many are out on slips.
+// One place of a shelf: its item, how many are on hand there, and how many are out on slips. The two are plain fields, as definitions and texts read them;
+// `Counts` is how a shelf keeps them.
 #[derive(Clone, Copy, PartialEq, Eq, Debug)]
 pub struct Place<I> {
     pub item: I,

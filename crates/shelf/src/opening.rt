@@ -8,13 +8,15 @@ use std::fmt;
 pub enum OpeningRefusal {
     // 1: no item, or more than 200
     ItemCount,
-    // 2: the item at `place`, the first such, lies outside its limits; `field` is its first field that does, counted from 1
+    // 2: the item at `place`, the first such, lies outside its limits; `field` is its first field that does, by its number from 1, since each kind of
+    // item has fields of its own
     Item { place: usize, field: u8 },
     // 3: shelf number 0
     ShelfNumber,
 }
 
 impl OpeningRefusal {
+    // Not as discriminants, since a case holds values; nor by `From`, as `why.number()` says which number is meant.
     pub fn number(&self) -> u8
         ensures { result ≡ opening_number self.now }
     {

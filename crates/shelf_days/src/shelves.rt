@@ -12,6 +12,8 @@ use shelf::{OpeningRefusal, Request, Shelf};
 use shelf_texts::{AsItem, OpenedText, answer_lines};
 use std::alloc::{AllocError, Global};
 
+// Heap, book, number and calls are lent by the section that is read, and stay parameters: a struct of them would only be taken apart again.
+
 // Makes the calls on a shelf that was just opened: the line of its opening, and a line for each answer.
 #[tactic(auto, using(crate::proofs::Sayings::calls_say))]
 fn calls_text<I: AsItem, B: RuleBook<Item = I>, S: Shelf<Item = I>>(

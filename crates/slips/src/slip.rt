@@ -3,7 +3,7 @@ ghost use Rattle.std.specs.Prelude.{◌≡◌, IsTrue, MatchResult};
 use rulebook::Refusal;
 
 // The claim to one bearing that was picked: the number of the shelf that it is out of, its place there, and whether an order or a return has ended it.
-// The mark of its end is a field, since it is what the contract of `drop` reads.
+// The mark of its end is a field, since it is what the contract of `drop` reads. Its numbers are plain fields and no `Taken`, which may be copied.
 pub struct Slip {
     pub(crate) number: u32,
     pub(crate) place: usize,

@@ -1,18 +1,14 @@
-use Rattle.std.proofs.Common.{sym, ap, rules}
-use Rattle.std.proofs.lemmas.Result.{err_from_is_err_and}
-use Rattle.rulebook.specs.Books.{answered}
 use Rattle.pads.proofs.Properly.{every_proper, quantities_proper}
-use Rattle.pads.specs.Book.{pad_articles}
 use Rattle.pads.proofs.book.article_list.Goals as goal
 
-pub returns-in_err-admitted : goal.returns-in_err-admitted
-returns-in_err-admitted c =
-    let exit = err_from_is_err_and c.from_residual.result c.from_residual.ensures.1 in
-    record {
-      is = rw (exit.1, exit.2) (sym (ap (λ o. answered o (pad_articles c.args.pad.now c.args.case.now)) c.in_err-admitted.ensures));
-      proper = every_proper c.args.pad.now c.args.case.now;
-      quantities = quantities_proper c.args.pad.now;
-    }
+pub returns-in_err-admitted-clause-proper : goal.returns-in_err-admitted-clause-proper
+returns-in_err-admitted-clause-proper c = every_proper c.args.pad.now c.args.case.now
 
-pub returns : goal.returns
-returns c = record { is = search rules; proper = every_proper c.args.pad.now c.args.case.now; quantities = quantities_proper c.args.pad.now }
+pub returns-in_err-admitted-clause-quantities : goal.returns-in_err-admitted-clause-quantities
+returns-in_err-admitted-clause-quantities c = quantities_proper c.args.pad.now
+
+pub returns-clause-proper : goal.returns-clause-proper
+returns-clause-proper c = every_proper c.args.pad.now c.args.case.now
+
+pub returns-clause-quantities : goal.returns-clause-quantities
+returns-clause-quantities c = quantities_proper c.args.pad.now
