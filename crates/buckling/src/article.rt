@@ -100,7 +100,8 @@ fn terms(admitted: &Admitted<Bearing>) -> WholeTerms
     }
 }
 
-// X' and Y' of a bearing under a case. A list of articles is answered in the same two lines; what is promised of it is another thing.
+// X' and Y' of a bearing under a case. A book answers its list of articles in two such lines. One function over both would need what each promises besides
+// as a law, and the law of an impl can't cite a lemma of its own crate.
 pub fn whole_terms(bearing: &Bearing, case: &Case) -> Result<WholeTerms, Refusal>
     ensures is { result ≡ answered (refusal_of (bearing_outside bearing.now) case.now) (whole_terms bearing.now case.now) }
     ensures rounded { bearing_outside bearing.now ≡ None → WholeNumbers bearing.now case.now }

@@ -38,7 +38,8 @@ fn behind(line: &Line, sort: Sort, before: Before) -> Result<Before, SectionFaul
     }
 }
 
-// The first fault of the lines behind an opening: the line, counted from 0, and what is wrong with it.
+// The first fault of the lines behind an opening: the line, counted from 0, and what is wrong with it. It is what is looked for here, and so an Option and
+// no Err.
 pub fn fault_in(lines: &[Line], sort: Sort) -> Option<(usize, SectionFault)>
     ensures is { result ≡ fault_of sort lines.now }
     ensures within { IfSome result (λ fault. fault.0 < length lines.now) }

@@ -31,7 +31,8 @@ pub fn first_section(lines: &[Line]) -> (&[Line], &[Line])
     }
 }
 
-// The sections of lines, one after the other. `Lines` is the like of it; an iterator over both would need clauses on what its closure cuts off.
+// The sections of lines, one after the other. `Lines` goes over lines in the same way; one iterator for both would need clauses
+// on what its closure cuts off.
 #[derive(Drop)]
 pub struct Sections<'a> {
     rest: &'a [Line],

@@ -14,7 +14,7 @@ pub struct Judgement {
     pub case: Case,
 }
 
-// The first word of a line, which says what item follows.
+// The first word of a line, which says what item follows. It is a value of its own, since its fault comes before any of what follows.
 #[derive(Clone, Copy)]
 pub(crate) enum Kind {
     Rectangle,

@@ -74,7 +74,7 @@ impl<'a> Words<'a> {
         ensures { Reads end self.entry self.entry result }
     {
         let word = self.place;
-        // no method of Option makes a word that was found the fault
+        // no method of Option makes a word that was found the fault more plainly
         match self.next() {
             None => Ok(()),
             Some(_) => Err(LineFault {

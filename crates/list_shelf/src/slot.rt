@@ -7,7 +7,7 @@ pub struct Slot<I> {
     pub counts: Counts,
 }
 
-// A shelf over the slots, the first of which is the front.
+// A shelf over the slots of a table that the caller owns, so that it needs no heap; the first slot is the front.
 #[derive(Drop)]
 pub struct ListShelf<'a, I> {
     pub(crate) number: u32,

@@ -37,6 +37,7 @@ fn verdict_of(admitted: &Admitted<Pad>) -> Verdict
     }
 }
 
+// A list of its own in each book, as the articles have other names.
 #[tactic(auto, unfolding(crate::specs::Book::pad_articles))]
 fn articles_of(admitted: &Admitted<Pad>) -> [bool; 4]
     ensures { result ≡ pad_articles admitted.now.item admitted.now.case }
@@ -49,8 +50,8 @@ fn articles_of(admitted: &Admitted<Pad>) -> [bool; 4]
     ]
 }
 
-// Whether each article holds, for a reader who wants to know why a verdict came out as it did. It is written for each book: that every side is a number is
-// proved from the book's own articles, and the impl of a trait can't cite a lemma of its own crate.
+// Whether each article holds, for a reader who wants to know why a verdict came out as it did. It is written for each book: that every side is a number would be
+// a law of the trait, and the law of an impl can't cite a lemma of its own crate.
 pub fn article_list(pad: &Pad, case: &Case) -> Result<[bool; 4], Refusal>
     ensures is { result ≡ answered (refusal_of (pad_outside pad.now) case.now) (pad_articles pad.now case.now) }
     ensures proper { pad_outside pad.now ≡ None → EveryProper (pad_comparisons pad.now case.now) }
@@ -71,7 +72,7 @@ impl RuleBook for PadBook {
 
     ghost measured = { λ b p within. let w = pad_within p within in (pad_height_fits p w, plan_fits (pad_plan p) w.sides_so) };
 
-    // A line or two for each call, written in every book, since a book has limits and a kind of item of its own.
+    // Written in every book, a line or two for each call: a book may have a count of articles, limits and a kind of item of its own, also where these books agree.
 
     fn article_count(&self) -> u8 {
         Self::ARTICLES

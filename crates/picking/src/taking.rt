@@ -8,7 +8,7 @@ use rulebook::{Case, Refusal, RuleBook};
 use shelf::Shelf;
 
 // Takes the best item on hand that passes, and answers the numbers of its slip. Refused by the loads, then by the rest of the case, then where no item
-// on hand passes.
+// on hand passes. Book, shelf and case are lent by three owners for one call, here and in what calls this.
 pub fn take_best<B: RuleBook, S: Shelf<Item = B::Item>>(
     book: &B,
     shelf: &mut S,

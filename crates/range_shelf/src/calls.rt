@@ -46,6 +46,7 @@ impl Shelf for RangeShelf {
     fn change(&mut self, place: usize, change: Change) -> Result<(), Refusal> {
         let counts = self.counts_at(place).ok_or(change.off_shelf())?;
         let counts = counts.after(change)?;
+        // The same steps as over slots, by the counts that lie here; by its index, as what is written through `get_mut` is not known afterwards.
         self.counts[place] = counts;
         Ok(())
     }

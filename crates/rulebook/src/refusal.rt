@@ -47,9 +47,7 @@ impl Refusal {
 pub fn admit(outside: Option<u8>, case: &Case) -> Result<(), Refusal>
     ensures { result ≡ answered (refusal_of outside case.now) tt }
 {
-    if let Some(field) = outside {
-        return Err(Refusal::Item { field });
-    }
+    measure(outside, ())?;
     if !case.loads_within() {
         return Err(Refusal::Loads);
     }

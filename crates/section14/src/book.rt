@@ -42,6 +42,7 @@ fn verdict_of(admitted: &Admitted<Bearing>) -> Verdict
     }
 }
 
+// A list of its own in each book, as the articles have other names.
 #[tactic(auto, unfolding(crate::specs::Book::section14_articles))]
 fn articles_of(admitted: &Admitted<Bearing>) -> [bool; 6]
     ensures { result ≡ section14_articles admitted.now.item admitted.now.case }
@@ -56,8 +57,8 @@ fn articles_of(admitted: &Admitted<Bearing>) -> [bool; 6]
     ]
 }
 
-// Whether each article holds, for a reader who wants to know why a verdict came out as it did. It is written for each book: that every side is a number is
-// proved from the book's own articles, and the impl of a trait can't cite a lemma of its own crate.
+// Whether each article holds, for a reader who wants to know why a verdict came out as it did. It is written for each book: that every side is a number would be
+// a law of the trait, and the law of an impl can't cite a lemma of its own crate.
 pub fn article_list(bearing: &Bearing, case: &Case) -> Result<[bool; 6], Refusal>
     ensures is { result ≡ answered (refusal_of (bearing_outside bearing.now) case.now) (section14_articles bearing.now case.now) }
     ensures proper { bearing_outside bearing.now ≡ None → EveryProper (section14_comparisons bearing.now case.now) }
@@ -78,7 +79,7 @@ impl RuleBook for Section14 {
 
     ghost measured = { λ b i within. let w = bearing_within i within in (height_fits i w, plan_fits i.plan w.sides_so) };
 
-    // A line or two for each call, written in every book, since a book has limits and a kind of item of its own.
+    // Written in every book, a line or two for each call: a book may have a count of articles, limits and a kind of item of its own, also where these books agree.
 
     fn article_count(&self) -> u8 {
         Self::ARTICLES

@@ -6,7 +6,7 @@ pub(crate) struct Row {
     pub(crate) kv: u64,
 }
 
-// By plan and shear mark: rectangle 1, rectangle 0, circle 1, circle 0.
+// One table, as the coefficients are published. By plan and shear mark: rectangle 1, rectangle 0, circle 1, circle 0.
 pub(crate) const ROWS: [Row; 4] = [
     Row { u: 4, k: 15, kv: 3 },
     Row { u: 4, k: 18, kv: 3 },

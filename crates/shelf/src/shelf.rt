@@ -23,8 +23,8 @@ impl Places {
 }
 
 // A shelf: its number, and its places from the front, each with an item and its counts. `meaning` is what it holds, and each call's contract is the
-// step from the meaning before, by the call with its answer, to the meaning after. The number and the place of a slip stay two parameters, since a text
-// may hand in any two numbers.
+// step from the meaning before, by the call with its answer, to the meaning after; of `change` and `take`, which are no calls of a history, it is the
+// change of one place. The number and the place of a slip stay two parameters, and a place and a count too, since a text may hand in any two numbers.
 pub trait Shelf {
     type Item: Copy;
 
@@ -37,7 +37,7 @@ pub trait Shelf {
     fn place(&self, place: usize) -> Result<Place<Self::Item>, Refusal>
         ensures { Step (meaning self.now) (asks_place place) (shown result) (meaning self.now) };
 
-    // Changes the counts of one place, or refuses and leaves all as they were. The four calls below are made of it; by itself it is no call of a history.
+    // Changes the counts of one place, or refuses and leaves all as they were. The calls below are made of it. It asks for no number of a slip.
     fn change(&mut self, place: usize, change: Change) -> Result<(), Refusal>
         ensures { Changed change place (meaning self.old) result (meaning self.new) };
 

@@ -27,6 +27,7 @@ fn opened(first: usize, line: &Line, behind: &[Line]) -> Result<Opening, NoShelf
     ensures { result ≡ opened_by first (opening_of line.now) behind.now }
 {
     let opening = opening_in(line).map_err(|what| NoShelf { line: first, what })?;
+    // no method of Option makes its value an error more plainly
     match fault_in(behind, opening.sort) {
         None => Ok(opening),
         Some((line, what)) => {

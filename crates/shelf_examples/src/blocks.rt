@@ -32,6 +32,8 @@ impl RuleBook for BlockBook {
         let tag = none_fails (nat_le i.tag 200) _ height.1 in
         (lt_of_le_of_lt (leb-true i.height 100 height.0) (lit< tt), lt_of_le_of_lt (leb-true i.tag 200 tag.0) (lit< tt)) };
 
+    // Written in every book, a line or two for each call, also where it is the same in another.
+
     fn article_count(&self) -> u8 {
         Self::ARTICLES
     }
