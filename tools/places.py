@@ -153,7 +153,6 @@ def point_5():
     rows = []
     facts = {}
     for name, fn, header, body in FUNCTIONS:
-        names = re.findall(r"(\w+): ", code_of(header))
         for label, fact in re.findall(r"(?:requires|ensures)( \w+)? \{ (.*) \}", header):
             if fact.startswith("result ≡") or "IfOk result" in fact:
                 continue
