@@ -1,4 +1,5 @@
-ghost use Rattle.std.specs.Prelude.{◌≡◌, ◌≤◌, IfSome};
+ghost use Rattle.std.specs.Prelude.{◌≡◌, ◌≤◌, IfNone, IfSome};
+ghost use Rattle.bearings.specs.Bounds.{Limited};
 ghost use Rattle.bearings.specs.Limits.{side, lamination, bearing_outside};
 ghost use Rattle.bearings.specs.Sizes.{rubber_sixteenths, bearing_height, plan_number, PlanNumber, RubberHeight, Height};
 ghost use Rattle.rulebook.specs.Tests.{between, first_failing};
@@ -55,34 +56,11 @@ impl Bearing {
         }
     }
 
-    // The height of all its rubber, in sixteenths of an inch.
-    pub fn rubber_height(&self) -> u32
-        ensures is { result ≡ rubber_sixteenths self.now }
-        ensures inches { RubberHeight self.now result }
+    // The first field outside its limits, counted from 1 in the order L, W, n, h, c, s, G, F, or D, n, h, c, s, G, F.
+    pub fn first_outside(&self) -> Option<u8>
+        ensures is { result ≡ bearing_outside self.now }
+        ensures limited { IfNone result (Limited self.now.plan self.now.thickness self.now.modulus) }
     {
-        self.layers as u32 * self.thickness as u32 + 2 * self.cover as u32
-    }
-
-    // In sixty-fourths of an inch.
-    pub fn height(&self) -> u32
-        ensures is { result ≡ bearing_height self.now }
-        ensures inches { Height self.now result }
-    {
-        4 * self.rubber_height() + (self.layers as u32 + 1) * self.laminate as u32
-    }
-}
-
-// The fields are counted in the order L, W, n, h, c, s, G, F, or D, n, h, c, s, G, F.
-impl Elastomeric for Bearing {
-    ghost outside = { bearing_outside };
-
-    ghost plan = { λ b. b.plan };
-
-    ghost thickness = { λ b. b.thickness };
-
-    ghost modulus = { λ b. b.modulus };
-
-    fn first_outside(&self) -> Option<u8> {
         let before = match self.plan {
             Plan::Rectangle { length, width } => {
                 if !side_within(length) {
@@ -101,6 +79,36 @@ impl Elastomeric for Bearing {
             }
         };
         self.lamination_outside().map(|field| before + field)
+    }
+
+    // The height of all its rubber, in sixteenths of an inch.
+    pub fn rubber_height(&self) -> u32
+        ensures is { result ≡ rubber_sixteenths self.now }
+        ensures inches { RubberHeight self.now result }
+    {
+        self.layers as u32 * self.thickness as u32 + 2 * self.cover as u32
+    }
+
+    // In sixty-fourths of an inch.
+    pub fn height(&self) -> u32
+        ensures is { result ≡ bearing_height self.now }
+        ensures inches { Height self.now result }
+    {
+        4 * self.rubber_height() + (self.layers as u32 + 1) * self.laminate as u32
+    }
+}
+
+impl Elastomeric for Bearing {
+    ghost outside = { bearing_outside };
+
+    ghost plan = { λ b. b.plan };
+
+    ghost thickness = { λ b. b.thickness };
+
+    ghost modulus = { λ b. b.modulus };
+
+    fn first_outside(&self) -> Option<u8> {
+        Bearing::first_outside(self)
     }
 
     fn plan(&self) -> Plan {

@@ -5,7 +5,7 @@ ghost use Rattle.shelf.specs.Opening.{Opened};
 ghost use Rattle.std.specs.Prelude.{◌≡◌, OnOk};
 
 use super::RangeShelf;
-use bearings::{Bearing, Elastomeric};
+use bearings::Bearing;
 use shelf::{Counts, OpeningRefusal};
 
 impl RangeShelf {

@@ -11,7 +11,7 @@ ghost use Rattle.bearings.proofs.Inequalities.{bearing_within};
 ghost use Rattle.bearings.proofs.Sizes.{height_fits, plan_fits};
 
 use super::articles::{compression_holds, rotation_holds, shear_holds, steel_holds, uplift_holds};
-use bearings::{Admitted, Bearing, Elastomeric};
+use bearings::{Admitted, Bearing};
 use buckling::buckling_holds;
 use rulebook::{Case, Refusal, RuleBook, Size, Verdict, measure};
 
