@@ -1,4 +1,4 @@
-ghost use Rattle.std.specs.Prelude.{◌≡◌};
+ghost use Rattle.std.specs.Prelude.{◌≡◌, ◌+◌, ◌<◌, ◌≤◌, IfErr, OnOk};
 ghost use Rattle.judge_lines.specs.Entries.{call_of, fields_of, entry_of};
 ghost use Rattle.judge_lines.specs.Reader.{Reads};
 
@@ -9,7 +9,9 @@ use super::{Entry, LineFault, Opening};
 use shelf::Request;
 
 fn read_call(call: Call, words: &mut Words) -> Result<Request, LineFault>
-    ensures { Reads (call_of call) words.old words.new result }
+    ensures reads { Reads (call_of call) words.old words.new result }
+    ensures counted { OnOk result (words.new.place ≤ words.old.place + 7) }
+    ensures at_fault { IfErr result (λ fault. fault.word < words.old.place + 7) }
 {
     let request = match call {
         Call::Receive => Request::Receive {
@@ -34,7 +36,9 @@ fn read_call(call: Call, words: &mut Words) -> Result<Request, LineFault>
 }
 
 fn read_fields(head: Head, words: &mut Words) -> Result<Entry, LineFault>
-    ensures { Reads (fields_of head) words.old words.new result }
+    ensures reads { Reads (fields_of head) words.old words.new result }
+    ensures counted { OnOk result (words.new.place ≤ words.old.place + 8) }
+    ensures at_fault { IfErr result (λ fault. fault.word < words.old.place + 8) }
 {
     let entry = match head {
         Head::Opening(sort) => Entry::Opening(Opening {
@@ -47,9 +51,10 @@ fn read_fields(head: Head, words: &mut Words) -> Result<Entry, LineFault>
     Ok(entry)
 }
 
-// The entry that the line is, or its first fault.
+// The entry that the line is, or its first fault, which is one of the first 10 words.
 pub fn read_entry(line: &[u8]) -> Result<Entry, LineFault>
-    ensures { result ≡ entry_of line.now }
+    ensures is { result ≡ entry_of line.now }
+    ensures few { IfErr result (λ fault. fault.word ≤ 10) }
 {
     let mut words = Words::new(line);
     let head = words.read()?;

@@ -1,4 +1,4 @@
-ghost use Rattle.std.specs.Prelude.{◌≡◌};
+ghost use Rattle.std.specs.Prelude.{◌≡◌, ◌+◌, ◌<◌, ◌≤◌, IfErr, OnOk};
 ghost use Rattle.judge_lines.specs.Reader.{Reads};
 ghost use Rattle.judge_lines.specs.Records.{rectangle, circle, lamination, pad, item_of, case, judgement_of};
 
@@ -11,7 +11,9 @@ use rulebook::Case;
 // A function for each record, and no trait: they differ in their fields, and some need what stands before those.
 
 fn read_rectangle(words: &mut Words) -> Result<Plan, LineFault>
-    ensures { Reads rectangle words.old words.new result }
+    ensures reads { Reads rectangle words.old words.new result }
+    ensures counted { OnOk result (words.new.place ≡ words.old.place + 2) }
+    ensures at_fault { IfErr result (λ fault. fault.word < words.old.place + 2) }
 {
     Ok(Plan::Rectangle {
         length: words.read()?,
@@ -20,7 +22,9 @@ fn read_rectangle(words: &mut Words) -> Result<Plan, LineFault>
 }
 
 fn read_circle(words: &mut Words) -> Result<Plan, LineFault>
-    ensures { Reads circle words.old words.new result }
+    ensures reads { Reads circle words.old words.new result }
+    ensures counted { OnOk result (words.new.place ≡ words.old.place + 1) }
+    ensures at_fault { IfErr result (λ fault. fault.word < words.old.place + 1) }
 {
     Ok(Plan::Circle {
         diameter: words.read()?,
@@ -28,7 +32,9 @@ fn read_circle(words: &mut Words) -> Result<Plan, LineFault>
 }
 
 fn read_lamination(plan: Plan, words: &mut Words) -> Result<Bearing, LineFault>
-    ensures { Reads (lamination plan) words.old words.new result }
+    ensures reads { Reads (lamination plan) words.old words.new result }
+    ensures counted { OnOk result (words.new.place ≡ words.old.place + 6) }
+    ensures at_fault { IfErr result (λ fault. fault.word < words.old.place + 6) }
 {
     Ok(Bearing {
         plan,
@@ -42,7 +48,9 @@ fn read_lamination(plan: Plan, words: &mut Words) -> Result<Bearing, LineFault>
 }
 
 fn read_pad(words: &mut Words) -> Result<Pad, LineFault>
-    ensures { Reads pad words.old words.new result }
+    ensures reads { Reads pad words.old words.new result }
+    ensures counted { OnOk result (words.new.place ≡ words.old.place + 4) }
+    ensures at_fault { IfErr result (λ fault. fault.word < words.old.place + 4) }
 {
     Ok(Pad {
         length: words.read()?,
@@ -53,7 +61,9 @@ fn read_pad(words: &mut Words) -> Result<Pad, LineFault>
 }
 
 pub(crate) fn read_case(words: &mut Words) -> Result<Case, LineFault>
-    ensures { Reads case words.old words.new result }
+    ensures reads { Reads case words.old words.new result }
+    ensures counted { OnOk result (words.new.place ≡ words.old.place + 7) }
+    ensures at_fault { IfErr result (λ fault. fault.word < words.old.place + 7) }
 {
     Ok(Case {
         dead: words.read()?,
@@ -67,7 +77,9 @@ pub(crate) fn read_case(words: &mut Words) -> Result<Case, LineFault>
 }
 
 pub(crate) fn read_item(kind: Kind, words: &mut Words) -> Result<Item, LineFault>
-    ensures { Reads (item_of kind) words.old words.new result }
+    ensures reads { Reads (item_of kind) words.old words.new result }
+    ensures counted { OnOk result (words.new.place ≤ words.old.place + 8) }
+    ensures at_fault { IfErr result (λ fault. fault.word < words.old.place + 8) }
 {
     let plan = match kind {
         Kind::Rectangle => read_rectangle(words)?,
@@ -77,9 +89,10 @@ pub(crate) fn read_item(kind: Kind, words: &mut Words) -> Result<Item, LineFault
     Ok(Item::Bearing(read_lamination(plan, words)?))
 }
 
-// The judgement that the line asks for, or its first fault.
+// The judgement that the line asks for, or its first fault, which is one of the first 17 words.
 pub fn read_judgement(line: &[u8]) -> Result<Judgement, LineFault>
-    ensures { result ≡ judgement_of line.now }
+    ensures is { result ≡ judgement_of line.now }
+    ensures few { IfErr result (λ fault. fault.word ≤ 17) }
 {
     let mut words = Words::new(line);
     let kind = words.read()?;

@@ -1,4 +1,4 @@
-ghost use Rattle.std.specs.Prelude.{◌≡◌, ◌+◌, ◌<◌, ◌≤◌, ◌^◌, length, [], ◌∷◌, MatchOption, IfSome};
+ghost use Rattle.std.specs.Prelude.{◌≡◌, ◌≢◌, ◌+◌, ◌<◌, ◌≤◌, ◌^◌, length, [], ◌∷◌, MatchOption, IfSome, IfErr, OnOk};
 ghost use Rattle.judge_lines.specs.Words.{blank, words};
 
 use super::field::Field;
@@ -59,9 +59,13 @@ impl<'a> Words<'a> {
         Some(word)
     }
 
-    // What the next word is for a field of this type.
+    // What the next word is for a field of this type. A word at fault is passed too; where none is left, the reader stays where it is.
     pub(crate) fn read<T: Field>(&mut self) -> Result<T, LineFault>
-        ensures { Reads (next T.meaning) self.old self.new result }
+        ensures reads { Reads (next T.meaning) self.old self.new result }
+        ensures passed { words self.old.rest.now ≢ [] → self.new.place ≡ self.old.place + 1 }
+        ensures none_left { words self.old.rest.now ≡ [] → self.new ≡ self.old }
+        ensures counted { OnOk result (self.new.place ≡ self.old.place + 1) }
+        ensures at_fault { IfErr result (λ fault. fault.word ≡ self.old.place) }
     {
         let word = self.place;
         self.next()
@@ -71,7 +75,8 @@ impl<'a> Words<'a> {
     }
 
     pub(crate) fn end(mut self) -> Result<(), LineFault>
-        ensures { Reads end self.entry self.entry result }
+        ensures reads { Reads end self.entry self.entry result }
+        ensures at_fault { IfErr result (λ fault. fault.word ≡ self.entry.place) }
     {
         let word = self.place;
         // no method of Option makes a word that was found the fault more plainly
