@@ -1,4 +1,3 @@
 pub mod Cutting
 pub mod LineCutting
 pub mod Counting
-pub mod Naming

@@ -23,16 +23,16 @@ impl Field for Head {
     ghost meaning = { head_in };
 
     fn read(word: &[u8]) -> Result<Head, WordFault> {
-        match str::from_utf8(word) {
-            Ok("bearings") => Ok(Head::Opening(Sort::Bearings)),
-            Ok("pads") => Ok(Head::Opening(Sort::Pads)),
-            Ok("range") => Ok(Head::Opening(Sort::Range)),
-            Ok("receive") => Ok(Head::Call(Call::Receive)),
-            Ok("pick") => Ok(Head::Call(Call::Pick)),
-            Ok("order") => Ok(Head::Call(Call::Order)),
-            Ok("return") => Ok(Head::Call(Call::GiveBack)),
-            Ok("place") => Ok(Head::Call(Call::Place)),
-            Ok("places") => Ok(Head::Call(Call::Places)),
+        match word {
+            _ if word == b"bearings".as_slice() => Ok(Head::Opening(Sort::Bearings)),
+            _ if word == b"pads".as_slice() => Ok(Head::Opening(Sort::Pads)),
+            _ if word == b"range".as_slice() => Ok(Head::Opening(Sort::Range)),
+            _ if word == b"receive".as_slice() => Ok(Head::Call(Call::Receive)),
+            _ if word == b"pick".as_slice() => Ok(Head::Call(Call::Pick)),
+            _ if word == b"order".as_slice() => Ok(Head::Call(Call::Order)),
+            _ if word == b"return".as_slice() => Ok(Head::Call(Call::GiveBack)),
+            _ if word == b"place".as_slice() => Ok(Head::Call(Call::Place)),
+            _ if word == b"places".as_slice() => Ok(Head::Call(Call::Places)),
             _ => Kind::read(word).map(Head::Item),
         }
     }
