@@ -5,7 +5,7 @@ ghost use Rattle.shelf.specs.Steps.{Step};
 
 use picking::take_best;
 use rulebook::RuleBook;
-use shelf::{Answer, Granted, Request, Shelf};
+use shelf::{Answer, Granted, Places, Request, Shelf};
 use std::alloc::AllocError;
 
 // One call, with its answer.
@@ -37,7 +37,10 @@ fn answer<B: RuleBook, S: Shelf<Item = B::Item>>(
             Granted::Done
         }
         Request::Place { place } => Granted::Shown(shelf.place(place)?),
-        Request::Places => Granted::Counted(shelf.places()),
+        Request::Places => {
+            let Places { count, number } = shelf.places();
+            Granted::Counted { number, count }
+        }
     })
 }
 

@@ -57,4 +57,4 @@ Right {I} shelf hand gone (asks_place k) answer =
     Refuses answer OffShelf (Off shelf k)
     ((i : I) × (slice_get shelf.items k ≡ Some i) × (answer ≡ Ok (Shown (record { item = i; on_hand = hand k; out = gone k }))))
 Right shelf hand gone asks_places answer =
-    answer ≡ Ok (Counted (record { count = length shelf.items; number = shelf.number }))
+    answer ≡ Ok (Counted shelf.number (length shelf.items))

@@ -19,14 +19,14 @@ where_done (Ok Done) movement = movement
 where_done (Err why) movement = nothing
 where_done (Ok (Picked number place)) movement = nothing
 where_done (Ok (Shown place)) movement = nothing
-where_done (Ok (Counted places)) movement = nothing
+where_done (Ok (Counted number count)) movement = nothing
 
 abbrev pub where_picked : {I : Type 0} → Answer I → Movement
 where_picked (Ok (Picked number place)) = pick place
 where_picked (Ok Done) = nothing
 where_picked (Err why) = nothing
 where_picked (Ok (Shown place)) = nothing
-where_picked (Ok (Counted places)) = nothing
+where_picked (Ok (Counted number count)) = nothing
 
 -- a granted receipt, pick, order or return moves something at its own place; a refused call and a question move nothing
 abbrev pub movement : {I : Type 0} → Call I → Answer I → Movement

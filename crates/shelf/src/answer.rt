@@ -25,8 +25,8 @@ pub enum Granted<I> {
     Picked { number: u32, place: usize },
     // to a question about a place
     Shown(Place<I>),
-    // to a question about the places
-    Counted(Places),
+    // to a question about the places: the fields of `Places`, which would make every answer larger by a third as a value of its own
+    Counted { number: u32, count: usize },
 }
 
 // What is answered to a call on a shelf: what it grants, or why it is refused.

@@ -31,7 +31,7 @@ pub trait Shelf {
     ghost meaning: { Self → Stock Self.Item };
 
     fn places(&self) -> Places
-        ensures { Step (meaning self.now) asks_places (Ok (Counted result)) (meaning self.now) };
+        ensures { Step (meaning self.now) asks_places (Ok (Counted result.number result.count)) (meaning self.now) };
 
     // Refused off the shelf.
     fn place(&self, place: usize) -> Result<Place<Self::Item>, Refusal>

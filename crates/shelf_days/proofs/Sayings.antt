@@ -24,13 +24,14 @@ use Rattle.judge_lines.specs.declared.judgement.Item.TheVariants as item
 use Rattle.shelf_days.specs.Days.{CallsSay, ListSays, RangeTextSays, freshly}
 
 -- the answer to the question about the places
-places_are : {I : Type 0} (s : Stock I) (places : Places) → Step s asks_places (Ok (Counted places)) s → places ≡ record { count = length s.places; number = s.number }
+places_are : {I : Type 0} (s : Stock I) (places : Places) → Step s asks_places (Ok (Counted places.number places.count)) s → places ≡ record { count = length s.places; number = s.number }
 places_are {I} s places step =
-    let same : places ≡ record { count = length (layout s).items; number = s.number } = cc step.right in
-    same ∙ ap (λ (n : ℕ). record { count = n; number = s.number }) (length-map s.places (λ (p : Place I). p.item))
+    let counted : places.count ≡ length (layout s).items = cc step.right in
+    let numbered : places.number ≡ s.number = cc step.right in
+    ap₂ (λ (n m : ℕ). record { count = n; number = m }) (counted ∙ length-map s.places (λ (p : Place I). p.item)) numbered
 
 pub calls_say : {I : Type 0} (R : Rules I) (written : I → Item) (s s' : Stock I) (calls : List Request) (places : Places) (before after slice new : List (Answer I)) (head text : List ℕ)
-    → Step s asks_places (Ok (Counted places)) s → before ≡ [] → slice ≡ after → after ≡ before ++ new → length new ≡ length calls → Goes s (history_of R calls new) s'
+    → Step s asks_places (Ok (Counted places.number places.count)) s → before ≡ [] → slice ≡ after → after ≡ before ++ new → length new ≡ length calls → Goes s (history_of R calls new) s'
     → head ≡ opened_text places ++ codes "\n" → text ≡ head ++ flat_map (answer_line written) slice → CallsSay R written s calls text
 calls_say {I} R written s s' calls places before after slice new head text step none whole more long goes headed is =
     let all : slice ≡ new = whole ∙ more ∙ ap (λ (xs : List (Answer I)). xs ++ new) none in (

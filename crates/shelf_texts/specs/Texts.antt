@@ -46,7 +46,7 @@ granted_text written (Shown place) =
     codes "place: " ++ (item_text (written place.item)
     ++ (codes ", on hand " ++ (decimal place.on_hand
     ++ (codes ", out " ++ decimal place.out))))
-granted_text written (Counted places) = codes "places: " ++ (decimal places.count ++ (codes ", shelf " ++ decimal places.number))
+granted_text written (Counted number count) = codes "places: " ++ (decimal count ++ (codes ", shelf " ++ decimal number))
 
 abbrev pub answer_text : {I : Type 0} → (written : I → Item) → Answer I → List ℕ
 answer_text written (Ok granted) = granted_text written granted

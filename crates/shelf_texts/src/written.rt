@@ -78,7 +78,7 @@ impl<I: AsItem> fmt::Display for AnswerText<I> {
                 let item = ItemText(item.as_item());
                 write!(f, "place: {item}, on hand {on_hand}, out {out}")
             }
-            Ok(Granted::Counted(Places { count, number })) => {
+            Ok(Granted::Counted { number, count }) => {
                 write!(f, "places: {count}, shelf {number}")
             }
             Err(why) => write!(f, "{why}"),

@@ -12,4 +12,4 @@ returns c =
     let s = c.args.self.now in
     let long = range_length s.bearing (hand_at s.counts) (gone_at s.counts) in
     let items = length-map (range_stock s).places (λ (p : Place Bearing). p.item) in
-    record { right = ap (λ (n : ℕ). Ok (Counted (record { count = n; number = s.number }))) (sym (items ∙ long)); change = refl }
+    record { right = ap (λ (n : ℕ). Ok (Counted s.number n)) (sym (items ∙ long)); change = refl }
