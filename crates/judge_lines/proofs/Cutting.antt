@@ -21,7 +21,7 @@ pub leading_no : {X : Type 0} (p : X → Bool) (b : X) (bs : List X) → p b ≡
 leading_no p b bs e = cond-false (p b) (1 + prefix_len p bs) 0 e
 
 -- blanks in front make no word
-words_past_blanks : (bs : List ℕ) → words bs ≡ words (drop (prefix_len blank bs) bs)
+pub words_past_blanks : (bs : List ℕ) → words bs ≡ words (drop (prefix_len blank bs) bs)
 words_past_blanks [] = refl
 words_past_blanks (b ∷ bs) =
     let past : ℕ → List (List ℕ) = λ n. words (drop n (b ∷ bs)) in
