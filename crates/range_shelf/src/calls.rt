@@ -1,4 +1,5 @@
 ghost use Rattle.range_shelf.specs.Range.{range_stock, counted_place};
+ghost use Rattle.shelf.specs.Changes.{Changed};
 ghost use Rattle.std.specs.List.{slice_get};
 ghost use Rattle.std.specs.Option.{option_map};
 ghost use Rattle.std.specs.Prelude.{◌≡◌, ◌<◌, IfSome};
@@ -16,6 +17,17 @@ impl RangeShelf {
     {
         let used = &self.counts[..self.bearing.layers as usize];
         used.get(place).copied()
+    }
+
+    // Changes the counts of one place, or refuses and leaves all as they were.
+    fn change_counts(&mut self, place: usize, change: Change) -> Result<(), Refusal>
+        ensures { Changed change place (range_stock self.old) result (range_stock self.new) }
+    {
+        let counts = self.counts_at(place).ok_or(change.off_shelf())?;
+        let counts = counts.after(change)?;
+        // The same steps as over slots, by the counts that lie here; by its index, as what is written through `get_mut` is not known afterwards.
+        self.counts[place] = counts;
+        Ok(())
     }
 }
 
@@ -44,10 +56,6 @@ impl Shelf for RangeShelf {
     }
 
     fn change(&mut self, place: usize, change: Change) -> Result<(), Refusal> {
-        let counts = self.counts_at(place).ok_or(change.off_shelf())?;
-        let counts = counts.after(change)?;
-        // The same steps as over slots, by the counts that lie here; by its index, as what is written through `get_mut` is not known afterwards.
-        self.counts[place] = counts;
-        Ok(())
+        self.change_counts(place, change)
     }
 }

@@ -3,7 +3,7 @@ use Rattle.bearings.specs.declared.bearing.Bearing.{Bearing}
 use Rattle.shelf.proofs.Stepping.{changed_so}
 use Rattle.shelf.specs.declared.answer.Place.{Place}
 use Rattle.range_shelf.proofs.Indexed.{places_set}
-use Rattle.range_shelf.proofs.calls.RangeShelfShelf.change.Goals as goal
+use Rattle.range_shelf.proofs.range.RangeShelf.change_counts.Goals as goal
 
 pub returns : goal.returns
 returns c =
