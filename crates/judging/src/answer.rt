@@ -18,6 +18,9 @@ pub enum NoVerdict {
     Refused(Refusal),
 }
 
+// What is answered to a line.
+pub type Answer = Result<Judged, NoVerdict>;
+
 impl From<LineFault> for NoVerdict {
     ghost use Rattle.std.specs.Prelude.{◌≡◌};
     ghost use Rattle.judging.specs.declared.answer.NoVerdict.TheVariants.{NoJudgement};

@@ -1,7 +1,7 @@
 ghost use Rattle.judging.specs.Answers.{articles_of, findings, item_judged, answer_to};
 ghost use Rattle.std.specs.Prelude.{◌≡◌};
 
-use super::{Judged, NoVerdict};
+use super::{Answer, Judged};
 use bearings::{Bearing, Pad};
 use judge_lines::{Item, read_judgement};
 use pads::PadBook;
@@ -51,7 +51,7 @@ fn judge_item(item: &Item, case: &Case) -> Result<Judged, Refusal>
     }
 }
 
-pub fn answer_to(line: &[u8]) -> Result<Judged, NoVerdict>
+pub fn answer_to(line: &[u8]) -> Answer
     ensures { result ≡ answer_to line.now }
 {
     let judgement = read_judgement(line)?;

@@ -7,7 +7,7 @@ mod answering;
 mod lines;
 mod texts;
 
-pub use answer::{Judged, NoVerdict};
+pub use answer::{Answer, Judged, NoVerdict};
 pub use answering::answer_to;
 pub use lines::answers;
 
