@@ -1,3 +1,4 @@
 pub mod Cutting
 pub mod LineCutting
 pub mod Counting
+pub mod Bounded

@@ -8,7 +8,8 @@ use super::{Item, Judgement, LineFault};
 use bearings::{Bearing, Pad, Plan};
 use rulebook::Case;
 
-// A function for each record, and no trait: they differ in their fields, and some need what stands before those.
+// A function for each record, and no trait: they differ in their fields, and some need what stands before those. Each says how far it reads, as the bound of
+// a fault's word rests on it.
 
 fn read_rectangle(words: &mut Words) -> Result<Plan, LineFault>
     ensures reads { Reads rectangle words.old words.new result }

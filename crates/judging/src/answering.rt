@@ -1,5 +1,7 @@
 ghost use Rattle.judging.specs.Answers.{articles_of, findings, item_judged, answer_to};
-ghost use Rattle.std.specs.Prelude.{◌≡◌};
+ghost use Rattle.judge_lines.specs.declared.fault.LineFault.{LineFault};
+ghost use Rattle.judging.specs.declared.answer.NoVerdict.TheVariants.{NoJudgement};
+ghost use Rattle.std.specs.Prelude.{◌≡◌, ◌≤◌};
 
 use super::{Answer, Judged};
 use bearings::{Bearing, Pad};
@@ -52,7 +54,8 @@ fn judge_item(item: &Item, case: &Case) -> Result<Judged, Refusal>
 }
 
 pub fn answer_to(line: &[u8]) -> Answer
-    ensures { result ≡ answer_to line.now }
+    ensures is { result ≡ answer_to line.now }
+    ensures few { (fault : LineFault) → result ≡ Err (NoJudgement fault) → fault.word ≤ 17 }
 {
     let judgement = read_judgement(line)?;
     Ok(judge_item(&judgement.item, &judgement.case)?)
