@@ -19,21 +19,21 @@ use Rattle.shelf.specs.declared.changes.Change.TheVariants.{Receive, Take, Order
 use Rattle.shelf.specs.declared.counts.Counts.{Counts}
 
 module _ {I : Type 0} (s : Stock I) (k : ℕ) (p : Place I) (there : slice_get s.places k ≡ Some p) where
-  on : Off (layout s) k → ⊥
-  on off = let w = slice_get_within s.places k p there in let n = length-map s.places (λ (p : Place I). p.item) in omega arith
+  pub place_on : Off (layout s) k → ⊥
+  place_on off = let w = slice_get_within s.places k p there in let n = length-map s.places (λ (p : Place I). p.item) in omega arith
 
   read : {X : Type 0} (f : Place I → X) → slice_get (map f s.places) k ≡ Some (f p)
   read f = slice_get-map f s.places k ∙ ap (option_map f) there
 
-  hand_is : on_hand s k ≡ p.on_hand
+  pub hand_is : on_hand s k ≡ p.on_hand
   hand_is = get_or_from_slice_get _ k _ 0 (read (λ (p : Place I). p.on_hand))
 
-  out_is : out s k ≡ p.out
+  pub out_is : out s k ≡ p.out
   out_is = get_or_from_slice_get _ k _ 0 (read (λ (p : Place I). p.out))
 
   pub shown_step : Step s (asks_place k) (Ok (Shown p)) s
   shown_step = record {
-    right = inr (on, (p.item, read (λ (p : Place I). p.item), ap₂ (λ (h o : ℕ). Ok (Shown (record { item = p.item; on_hand = h; out = o }))) (sym hand_is) (sym out_is)));
+    right = inr (place_on, (p.item, read (λ (p : Place I). p.item), ap₂ (λ (h o : ℕ). Ok (Shown (record { item = p.item; on_hand = h; out = o }))) (sym hand_is) (sym out_is)));
     change = refl;
   }
 
@@ -41,8 +41,8 @@ module _ {I : Type 0} (s : Stock I) (k : ℕ) (p : Place I) (there : slice_get s
       → Changed {T = Unit {0}} change k s (Ok tt) s'
   changed_so change counts s' is same = rw there (rw (sym is) same)
 
-off_at : {I : Type 0} (s : Stock I) (k : ℕ) → slice_get s.places k ≡ None → Off (layout s) k
-off_at {I} s k e = elim (slice_get_cases s.places k).1 [
+pub place_off : {I : Type 0} (s : Stock I) (k : ℕ) → slice_get s.places k ≡ None → Off (layout s) k
+place_off {I} s k e = elim (slice_get_cases s.places k).1 [
   | inl (p, lt, there, same) ↦ absurd (none-some p (sym e ∙ there))
   | inr (past, none) ↦ let n = length-map s.places (λ (p : Place I). p.item) in omega arith
 ]
@@ -57,9 +57,9 @@ module _ {I T : Type 0} (s s' : Stock I) (k : ℕ) where
   either_at : (change : Change) (r : Result T Refusal) (o : Option (Place I)) → slice_get s.places k ≡ o → ChangedTo (place_after change o) k s r s' → Either change r
   unfolding Either
   either_at change (Ok x) None e h = absurd h
-  either_at change (Err why) None e h = inl (off_at s k e, ap Err h.0, h.1)
+  either_at change (Err why) None e h = inl (place_off s k e, ap Err h.0, h.1)
   either_at change r (Some p) e h =
-      inr (on s k p e, subst (λ (c : Result (ℕ × ℕ) Refusal). ChangedTo c k s r s') (ap₂ (counts_after change) (sym (hand_is s k p e)) (sym (out_is s k p e))) h)
+      inr (place_on s k p e, subst (λ (c : Result (ℕ × ℕ) Refusal). ChangedTo c k s r s') (ap₂ (counts_after change) (sym (hand_is s k p e)) (sym (out_is s k p e))) h)
 
   either : (change : Change) (r : Result T Refusal) → Changed change k s r s' → Either change r
   either change r h = either_at change r (slice_get s.places k) refl h
