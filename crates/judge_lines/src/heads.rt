@@ -23,6 +23,7 @@ impl Field for Head {
     ghost meaning = { head_in };
 
     fn read(word: &[u8]) -> Result<Head, WordFault> {
+        // each word whole, by its bytes: a pattern of bytes would branch at every byte, and text would have to be checked to be UTF-8 first
         match word {
             _ if word == b"bearings".as_slice() => Ok(Head::Opening(Sort::Bearings)),
             _ if word == b"pads".as_slice() => Ok(Head::Opening(Sort::Pads)),

@@ -25,7 +25,7 @@ pub enum Granted<I> {
     Picked { number: u32, place: usize },
     // to a question about a place
     Shown(Place<I>),
-    // to a question about the places: the fields of `Places`, which would make every answer larger by a third as a value of its own
+    // to a question about the places: the fields of a `Places`; as one value they would make the answer larger by a third
     Counted { number: u32, count: usize },
 }
 
